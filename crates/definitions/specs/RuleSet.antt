@@ -1,0 +1,116 @@
+-- Rule sets, and what they mean for a call: which action the filter has to return. The rule sets, operators and widths are those of
+-- seccompiler 0.5.0; the words of architectures and actions are those of linux/audit.h and linux/seccomp.h.
+use Prim.Native.Nat.{ℕ, _/_, _%_, _^_}
+use mathlib.Core.Path.{_≡_}
+use mathlib.Core.Bool.{Bool, true, false, cond, not, _&&_, _||_}
+use mathlib.Core.List.{List, [], _∷_, _++_}
+use lib.Dec.{eqb, leb, ltb}
+use lib.ListN.{getD}
+use lib.Bits.{bitAnd}
+use Rattle.definitions.specs.declared.Operator.{Operator}
+use Rattle.definitions.specs.declared.Operator.the-variants.{Eq, Ge, Gt, Le, Lt, MaskedEq, Ne}
+use Rattle.definitions.specs.declared.Width.{Width}
+use Rattle.definitions.specs.declared.Width.the-variants.{Dword, Qword}
+use Rattle.definitions.specs.declared.Condition.{Condition}
+use Rattle.definitions.specs.Machine.{Call}
+
+-- ---- what a rule set is
+
+pub data Architecture : Type 0 where
+  x86-64 aarch64 : Architecture
+
+unfoldable pub architectureWord : Architecture → ℕ
+architectureWord x86-64 = 0xc000003e
+architectureWord aarch64 = 0xc00000b7
+
+-- a rule: all its conditions must hold
+abbrev pub Rule : Type 0
+Rule = List Condition
+
+-- a listed call number, with the rules of which one must match; with no rules it always matches
+pub record Entry : Type 0 where
+  pub number : ℕ
+  pub rules : List Rule
+
+-- actions are the words that a filter returns
+pub record RuleSet : Type 0 where
+  pub architecture : Architecture
+  pub mismatch : ℕ
+  pub onMatch : ℕ
+  pub entries : List Entry
+
+-- ---- action words
+
+abbrev pub killProcess : ℕ
+killProcess = 0x80000000
+
+-- errno and trace carry a number in their lower half
+unfoldable pub carriesNumber : ℕ → Bool
+carriesNumber w = eqb (w / 2 ^ 16) 0x0005 || eqb (w / 2 ^ 16) 0x7ff0
+
+-- kill process, kill thread, trap, log, allow: nothing in the lower half
+unfoldable pub carriesNone : ℕ → Bool
+carriesNone w = eqb w 0x80000000 || eqb w 0x00000000 || eqb w 0x00030000 || eqb w 0x7ffc0000 || eqb w 0x7fff0000
+
+unfoldable pub isAction : ℕ → Bool
+isAction w = carriesNumber w || carriesNone w
+
+-- ---- what a rule set means
+
+abbrev pub argument : ℕ → Call → ℕ
+argument i c = getD (c .argument0 ∷ c .argument1 ∷ c .argument2 ∷ c .argument3 ∷ c .argument4 ∷ c .argument5 ∷ []) i 0
+
+-- what of a number is looked at
+abbrev pub cut : Width → ℕ → ℕ
+cut Dword x = x % 2 ^ 32
+cut Qword x = x
+
+-- argument x against value v, with mask m: unsigned
+unfoldable pub test : Operator → ℕ → ℕ → ℕ → Bool
+test Eq x v m = eqb x v
+test Ge x v m = leb v x
+test Gt x v m = ltb v x
+test Le x v m = leb x v
+test Lt x v m = ltb x v
+test MaskedEq x v m = eqb (bitAnd x m) (bitAnd v m)
+test Ne x v m = not (eqb x v)
+
+unfoldable pub holds : Call → Condition → Bool
+holds c q =
+    test (q .operator) (cut (q .width) (argument (q .index) c)) (cut (q .width) (q .value)) (cut (q .width) (q .mask))
+
+unfoldable pub allHold : Call → Rule → Bool
+allHold c [] = true
+allHold c (q ∷ qs) = holds c q && allHold c qs
+
+unfoldable pub anyHolds : Call → List Rule → Bool
+anyHolds c [] = false
+anyHolds c (r ∷ rs) = allHold c r || anyHolds c rs
+
+unfoldable pub matches : Call → List Rule → Bool
+matches c [] = true
+matches c (r ∷ rs) = anyHolds c (r ∷ rs)
+
+-- what the entries say: match action m, mismatch action d
+unfoldable pub listed : Call → ℕ → ℕ → List Entry → ℕ
+listed c m d [] = d
+listed c m d (e ∷ es) = cond (eqb (c .number) (e .number)) (cond (matches c (e .rules)) m d) (listed c m d es)
+
+unfoldable pub meaning : RuleSet → Call → ℕ
+meaning rs c =
+    cond (eqb (c .architecture) (architectureWord (rs .architecture))) (listed c (rs .onMatch) (rs .mismatch) (rs .entries)) killProcess
+
+-- ---- what it is to let more calls match
+
+unfoldable pub isListed : ℕ → List Entry → Bool
+isListed n [] = false
+isListed n (e ∷ es) = eqb n (e .number) || isListed n es
+
+-- `new` is `old` with a number listed that was not, or with a rule added to an entry that has rules
+pub data MoreEntries (old new : List Entry) : Type 0 where
+  listing : (before behind : List Entry) (e : Entry) → isListed (e .number) old ≡ false
+      → old ≡ before ++ behind → new ≡ before ++ (e ∷ behind) → MoreEntries old new
+  adding : (before behind : List Entry) (n : ℕ) (front : List Rule) (r s : Rule) (back : List Rule)
+      → old ≡ before ++ (record { number = n; rules = front ++ (s ∷ back) } ∷ behind)
+      → new ≡ before ++ (record { number = n; rules = front ++ (r ∷ (s ∷ back)) } ∷ behind)
+      → MoreEntries old new

@@ -1,0 +1,43 @@
+// The types that definitions, proofs and code share, each declared once. There is no code here:
+// what these values mean is said in specs/.
+
+// An instruction of classic BPF: struct sock_filter of linux/filter.h.
+pub struct Instruction {
+    pub code: u16,
+    pub jt: u8,
+    pub jf: u8,
+    pub k: u32,
+}
+
+// How an argument of a call is compared with a value.
+pub enum Operator {
+    Eq,
+    Ge,
+    Gt,
+    Le,
+    Lt,
+    MaskedEq,
+    Ne,
+}
+
+// How much of an argument is compared: its low 32 bits, or all 64.
+pub enum Width {
+    Dword,
+    Qword,
+}
+
+// One comparison of an argument. The mask is 0 unless the operator is masked eq.
+pub struct Condition {
+    pub index: u8,
+    pub width: Width,
+    pub operator: Operator,
+    pub value: u64,
+    pub mask: u64,
+}
+
+// What compiling answers: a number that says what became of it, and how many instructions the filter has.
+#[repr(C)]
+pub struct Answer {
+    pub code: u32,
+    pub count: u32,
+}
