@@ -30,6 +30,10 @@ abbrev pub all : {A : Type 0} → (A → Bool) → List A → Bool
 all f [] = true
 all f (x ∷ xs) = f x && all f xs
 
+-- what every rule of every entry passes
+abbrev pub everyRule : (Rule → Bool) → RuleSet → Bool
+everyRule f rs = all (λ (e : Entry). all f (e .rules)) (rs .entries)
+
 abbrev pub hasConditions : Rule → Bool
 hasConditions [] = false
 hasConditions (q ∷ qs) = true
@@ -37,9 +41,11 @@ hasConditions (q ∷ qs) = true
 abbrev pub indexTaken : Condition → Bool
 indexTaken q = leb (q .index) 5
 
--- what every rule of every entry passes
-abbrev pub everyRule : (Rule → Bool) → RuleSet → Bool
-everyRule f rs = all (λ (e : Entry). all f (e .rules)) (rs .entries)
+abbrev pub rulesFilled : RuleSet → Bool
+rulesFilled rs = everyRule hasConditions rs
+
+abbrev pub indicesTaken : RuleSet → Bool
+indicesTaken rs = everyRule (all indexTaken) rs
 
 -- seccompiler refuses a filter of this many instructions, and more
 abbrev pub tooMany : ℕ
@@ -53,8 +59,8 @@ unfoldable pub answerWith : ℕ → RuleSet → ℕ → Answer
 answerWith n rs room =
     cond (not (ascending (rs .entries))) (answer 2 0)
     (cond (eqb (rs .mismatch) (rs .onMatch)) (answer 3 0)
-    (cond (not (everyRule hasConditions rs)) (answer 4 0)
-    (cond (not (everyRule (all indexTaken) rs)) (answer 5 0)
+    (cond (not (rulesFilled rs)) (answer 4 0)
+    (cond (not (indicesTaken rs)) (answer 5 0)
     (cond (leb tooMany n) (answer 6 n)
     (cond (ltb room (8 * n)) (answer 7 n)
     (answer 0 n))))))

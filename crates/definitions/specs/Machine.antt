@@ -3,7 +3,7 @@
 --
 -- Every jump goes forward, so a filter is run along its list: `run n filter state call` skips n instructions and runs on from
 -- there. A run that does what the kernel's checks forbid is `stuck`.
-use Prim.Native.Nat.{ℕ, zero, suc, _+_, _-_, _*_, _/_, _%_, _^_}
+use Prim.Native.Nat.{ℕ, zero, suc, _+_, _-_, _*_, _/_, _%_, _^_, _≤_, _<_}
 use mathlib.Core.Bool.{Bool, cond, not, _&&_}
 use mathlib.Core.List.{List, [], _∷_, _++_}
 use mathlib.Core.Option.{Option, none, some}
@@ -202,3 +202,8 @@ runs p c = run 0 p start c
 -- how many instructions a run executes
 abbrev pub steps : List Instruction → Call → ℕ
 steps p c = length (visits 0 0 p start c)
+
+-- places that only go up, from `at` on, and stay below n: so none comes twice
+abbrev pub Climbs : ℕ → ℕ → List ℕ → Type 0
+Climbs at n [] = Unit {0}
+Climbs at n (k ∷ ks) = (at ≤ k) × (k < n) × Climbs (k + 1) n ks

@@ -1,0 +1,77 @@
+-- RIGHT: the emitted filter returns, for every call, the action that its rule set means.
+use mathlib.Core.Path.{_≡_, refl, _∙_}
+use mathlib.Core.Bool.{Bool, true, false, cond}
+use mathlib.Core.List.{List, [], _∷_, _++_, append-assoc}
+use Prim.Native.Nat.{ℕ, _≤_}
+use lib.Dec.{eqb, leb}
+use borrow.Author.Tests.{leb-true}
+use Rattle.definitions.specs.declared.Instruction.{Instruction}
+use Rattle.definitions.specs.declared.Condition.{Condition}
+use Rattle.definitions.specs.Machine.{Call, State, Result, returns, run, runs, start, setA}
+use Rattle.definitions.specs.RuleSet.{Rule, Entry, RuleSet, allHold, anyHolds, matches, listed, meaning, killProcess}
+use Rattle.definitions.specs.Format.{Each}
+use Rattle.definitions.specs.Answer.{indicesTaken}
+use Rattle.definitions.specs.Emitted.{return, conditionsCode, distance, ruleCode, rulesCode, bodyCode, entryCode, entriesCode, numbersCode, emitted}
+use Rattle.theorems.proofs.Tests.{each-of}
+use Rattle.theorems.proofs.Steps.{run-load, run-return, run-equal, skip1, fetch-number, fetch-architecture}
+use Rattle.theorems.proofs.Conditions.{Goes, cond-or}
+use Rattle.theorems.proofs.Rules.{IndexTaken, Walks, rule-here, rule-past}
+
+abbrev pub EntryTaken : Entry → Type 0
+EntryTaken e = Each (Each IndexTaken) (e .rules)
+
+pub each-index : (rs : RuleSet) → indicesTaken rs ≡ true → Each EntryTaken (rs .entries)
+each-index rs h = each-of _ (λ e. each-of _ (each-of _ (λ q. leb-true (q .index) 5)) (e .rules)) (rs .entries) h
+
+-- ---- code p in the chain of entries: it gives y or n as b says, and a call with another number walks past it to z
+
+record Chained (c : Call) (y n z : Result) (b : Bool) (p : List Instruction) : Type 0 where
+  here : Goes 0 p c (cond b y n)
+  past : Walks 1 p c z
+
+module _ (m : ℕ) (rest : List Instruction) (c : Call) (n z : Result) (miss : Goes 0 rest c n) (pass : Walks 1 rest c z) where
+  rules-right : (rs : List Rule) → Each (Each IndexTaken) rs → Chained c (returns m) n z (anyHolds c rs) (rulesCode m rs ++ rest)
+  unfolding rulesCode anyHolds
+  rules-right [] g = record { here = miss; past = pass }
+  rules-right (r ∷ rs) g =
+      let h = rules-right rs (g .1) in
+      let n′ : Result = cond (anyHolds c rs) (returns m) n in
+      record {
+        here = λ s. rw (append-assoc, cond-or) (rule-here m r (rulesCode m rs ++ rest) c n′ z (g .0) (h .here) (h .past) s);
+        past = λ s e. rw append-assoc (rule-past m r (rulesCode m rs ++ rest) c n′ z (g .0) (h .here) (h .past) s e) }
+
+  body-right : (rs : List Rule) → Each (Each IndexTaken) rs → Chained c (returns m) n z (matches c rs) (bodyCode m rs ++ rest)
+  unfolding bodyCode matches ruleCode conditionsCode distance allHold
+  body-right [] g = record { here = rule-here m [] rest c n z tt miss pass; past = rule-past m [] rest c n z tt miss pass }
+  body-right (r ∷ rs) g = rules-right (r ∷ rs) g
+
+cond-returns : (b : Bool) (m d : ℕ) → cond b (returns m) (returns d) ≡ returns (cond b m d)
+cond-returns true m d = refl
+cond-returns false m d = refl
+
+-- one entry, in front of the others, with the call's number in the accumulator
+entry-right : (m d : ℕ) (e : Entry) (p : List Instruction) (c : Call) {z : Result} → EntryTaken e → Walks 0 p c z
+    → Walks 0 (entryCode m d e ++ p) c (cond (eqb (c .number) (e .number)) (cond (matches c (e .rules)) (returns m) (returns d)) z)
+unfolding entryCode
+entry-right m d e p c {z} g w s at =
+    let h = body-right m (return d ∷ p) c (returns d) z (λ t. run-return p t c d) (λ t q. skip1 p t c (return d) ∙ w t q) (e .rules) g in
+    rw (append-assoc, run-equal, h .here s, h .past s at, at)
+
+entries-right : (m d : ℕ) (es : List Entry) (c : Call) → Each EntryTaken es
+    → Walks 0 (entriesCode m d es ++ (return d ∷ [])) c (returns (listed c m d es))
+unfolding entriesCode listed
+entries-right m d [] c g s at = run-return [] s c d
+entries-right m d (e ∷ es) c g s at =
+    rw append-assoc (entry-right m d e (entriesCode m d es ++ (return d ∷ [])) c (g .0) (entries-right m d es c (g .1)) s at ∙ simp cond-returns)
+
+numbers-right : (m d : ℕ) (es : List Entry) (c : Call) → Each EntryTaken es → Goes 0 (numbersCode m d es) c (returns (listed c m d es))
+unfolding numbersCode listed
+numbers-right m d [] c g s = run-return [] s c d
+numbers-right m d (e ∷ es) c g s =
+    run-load _ s c 0 (fetch-number c) ∙ entries-right m d (e ∷ es) c g (setA (c .number) s) refl
+
+pub right : (rs : RuleSet) → indicesTaken rs ≡ true → (c : Call) → runs (emitted rs) c ≡ returns (meaning rs c)
+unfolding emitted meaning
+right rs taken c =
+    run-load _ start c 4 (fetch-architecture c)
+    ∙ rw (run-equal, skip1, run-return, numbers-right (rs .onMatch) (rs .mismatch) (rs .entries) c (each-index rs taken), cond-returns)
