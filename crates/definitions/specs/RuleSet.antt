@@ -44,16 +44,20 @@ pub record RuleSet : Type 0 where
 abbrev pub killProcess : ℕ
 killProcess = 0x80000000
 
--- errno and trace carry a number in their lower half
-unfoldable pub carriesNumber : ℕ → Bool
-carriesNumber w = eqb (w / 2 ^ 16) 0x0005 || eqb (w / 2 ^ 16) 0x7ff0
+unfoldable pub oneOf : List ℕ → ℕ → Bool
+oneOf [] w = false
+oneOf (x ∷ xs) w = eqb w x || oneOf xs w
 
--- kill process, kill thread, trap, log, allow: nothing in the lower half
-unfoldable pub carriesNone : ℕ → Bool
-carriesNone w = eqb w 0x80000000 || eqb w 0x00000000 || eqb w 0x00030000 || eqb w 0x7ffc0000 || eqb w 0x7fff0000
+-- kill process, kill thread, trap, log, allow: whole words
+abbrev pub plainActions : List ℕ
+plainActions = killProcess ∷ 0x00000000 ∷ 0x00030000 ∷ 0x7ffc0000 ∷ 0x7fff0000 ∷ []
+
+-- errno and trace: the upper half, with any number in the lower
+abbrev pub numberedActions : List ℕ
+numberedActions = 0x0005 ∷ 0x7ff0 ∷ []
 
 unfoldable pub isAction : ℕ → Bool
-isAction w = carriesNumber w || carriesNone w
+isAction w = oneOf plainActions w || oneOf numberedActions (w / 2 ^ 16)
 
 -- ---- what a rule set means
 

@@ -37,7 +37,7 @@ module _ {A : Type 0} (x y : A) where
 
 ruleset stepping = (run-low, run-high, run-mask, run-equal, run-greater, run-at-least, skip2, skip3, skip-two, skip-three, cond-and, cond-or, cond-not)
 
-abbrev compared : Operator → Width → ℕ → ℕ → ℕ → Condition
+abbrev pub compared : Operator → Width → ℕ → ℕ → ℕ → Condition
 compared o w i v m = record { index = i; width = w; operator = o; value = v; mask = m }
 
 as-parts : (o : Operator) (w : Width) (i v m f : ℕ) (rest : List Instruction) (c : Call) {yes-result no-result : Result}

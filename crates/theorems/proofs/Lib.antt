@@ -6,3 +6,4 @@ pub mod Rules
 pub mod Right
 pub mod Once
 pub mod Safe
+pub mod Taken

@@ -1,7 +1,12 @@
 -- Tests that came out true, taken apart and put together again.
 use mathlib.Core.Path.{_≡_, refl}
-use mathlib.Core.Bool.{Bool, true, false, _&&_}
+use mathlib.Core.Bool.{Bool, true, false, _&&_, _||_}
 use mathlib.Core.List.{List, [], _∷_}
+use Prim.Native.Nat.{ℕ, _<_}
+use native.Mathlib.Omega.{arith}
+use lib.Dec.{eqb, ltb}
+use borrow.Author.Tests.{eqb-true, ltb-true}
+use Rattle.definitions.specs.RuleSet.{oneOf}
 use Rattle.definitions.specs.Format.{Each}
 use Rattle.definitions.specs.Answer.{all}
 
@@ -11,6 +16,17 @@ both-true false b h = (h, cc)
 
 pub true-both : {a b : Bool} → a ≡ true → b ≡ true → (a && b) ≡ true
 true-both p q = rw (p, q)
+
+pub either-true : {P : Type 0} (a b : Bool) → (a ≡ true → P) → (b ≡ true → P) → (a || b) ≡ true → P
+either-true true b f g h = f refl
+either-true false b f g h = g h
+
+pub one-below : (n : ℕ) (xs : List ℕ) (w : ℕ) → all (λ x. ltb x n) xs ≡ true → oneOf xs w ≡ true → w < n
+unfolding oneOf
+one-below n [] w small h = absurd (let z : _≡_ {A = ℕ} 0 1 = cc in omega arith)
+one-below n (x ∷ xs) w small h =
+    let s = both-true (ltb x n) (all (λ y. ltb y n) xs) small in
+    either-true (eqb w x) (oneOf xs w) (λ e. let q = eqb-true w x e in omega (arith, ltb-true x n (s .0))) (one-below n xs w (s .1)) h
 
 pub each-of : {A : Type 0} {P : A → Type 0} (f : A → Bool) → ((x : A) → f x ≡ true → P x) → (xs : List A) → all f xs ≡ true → Each P xs
 each-of f one [] h = tt
