@@ -7,3 +7,5 @@ pub mod Right
 pub mod Once
 pub mod Safe
 pub mod Taken
+pub mod Words
+pub mod Bytes
