@@ -34,8 +34,14 @@ instruction-back : (i : Instruction) (p q : List ℕ) (at : ℕ) → length p �
 unfolding instructionAt instructionBytes bytesOf numberAt
 instruction-back i p q at e f =
     let t = instructionBytes i ++ q in
-    rw (number-here 2 p t at e, byte-past p t at 2 e, byte-past p t at 3 e, number-past 4 p t at 4 e,
-      number-bytes 2 (i .code) (f .0), number-bytes 4 (i .k) (f .3))
+    rw (
+      number-here 2 p t at e,
+      byte-past p t at 2 e,
+      byte-past p t at 3 e,
+      number-past 4 p t at 4 e,
+      number-bytes 2 (i .code) (f .0),
+      number-bytes 4 (i .k) (f .3),
+    )
 
 instructions-back : (p : List Instruction) (front : List ℕ) (at : ℕ) → length front ≡ at → Each Fits p
     → instructionsAt (front ++ filterBytes p) (length p) at ≡ p

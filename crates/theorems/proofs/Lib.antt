@@ -9,3 +9,4 @@ pub mod Safe
 pub mod Taken
 pub mod Words
 pub mod Bytes
+pub mod RoundTrip

@@ -38,7 +38,8 @@ module _ (m : ℕ) (rest : List Instruction) (c : Call) (n z : Result) (miss : G
       let n′ : Result = cond (anyHolds c rs) (returns m) n in
       record {
         here = λ s. rw (append-assoc, cond-or) (rule-here m r (rulesCode m rs ++ rest) c n′ z (g .0) (h .here) (h .past) s);
-        past = λ s e. rw append-assoc (rule-past m r (rulesCode m rs ++ rest) c n′ z (g .0) (h .here) (h .past) s e) }
+        past = λ s e. rw append-assoc (rule-past m r (rulesCode m rs ++ rest) c n′ z (g .0) (h .here) (h .past) s e);
+      }
 
   body-right : (rs : List Rule) → Each (Each IndexTaken) rs → Chained c (returns m) n z (matches c rs) (bodyCode m rs ++ rest)
   unfolding bodyCode matches ruleCode conditionsCode distance allHold

@@ -48,7 +48,8 @@ module _ (c : Call) (y n z : Result) where
       go true = record {
         here = λ s. simp (run-jump, skip2) (h .here s);
         fail = λ s. simp (skip1, run-jump, skip-one) (h .fail s);
-        past = λ s e. simp (skip2, run-jump) (h .past s e) }
+        past = λ s e. simp (skip2, run-jump) (h .past s e);
+      }
       go false = h
 
   condition-built : (b : Bool) (q : Condition) (d : ℕ) (p : List Instruction) → IndexTaken q → Built c y n z b d p
@@ -58,7 +59,8 @@ module _ (c : Call) (y n z : Result) where
     fail = λ s. rw jump-over (h .fail s);
     past = λ s e.
         let w : d + length (conditionCode q d) + 1 ≡ (d + 1) + length (conditionCode q d) = omega arith in
-        rw (w, jump-over) (h .past s e) }
+        rw (w, jump-over) (h .past s e);
+  }
 
   step-built : (b : Bool) (q : Condition) (d : ℕ) (p : List Instruction) → IndexTaken q → Built c y n z b d p
       → Built c y n z (holds c q && b) (stepDistance q d) (stepCode q d ++ p)
@@ -78,7 +80,7 @@ module _ (c : Call) (y n z : Result) where
   conditions-built b [] d p g h = h
   conditions-built b (q ∷ qs) d p g h =
       rw (append-assoc, ← regroup (holds c q) (allHold c qs) b)
-        (conditions-built (holds c q && b) qs (stepDistance q d) (stepCode q d ++ p) (g .1) (step-built b q d p (g .0) h))
+      (conditions-built (holds c q && b) qs (stepDistance q d) (stepCode q d ++ p) (g .1) (step-built b q d p (g .0) h))
 
 -- a rule in front of `rest`
 module _ (m : ℕ) (qs : Rule) (rest : List Instruction) (c : Call) (n z : Result) (g : Each IndexTaken qs) (miss : Goes 0 rest c n) (pass : Walks 1 rest c z) where
@@ -86,7 +88,8 @@ module _ (m : ℕ) (qs : Rule) (rest : List Instruction) (c : Call) (n z : Resul
   base = record {
     here = λ s. run-return rest s c m;
     fail = λ s. skip1 rest s c (return m) ∙ miss s;
-    past = λ s e. run-suc rest s c (return m) 1 ∙ pass s e }
+    past = λ s e. run-suc rest s c (return m) 1 ∙ pass s e;
+  }
 
   built : Built c (returns m) n z (allHold c qs && true) (distance qs 1) (conditionsCode qs 1 ++ (return m ∷ rest))
   built = conditions-built c (returns m) n z true qs 1 (return m ∷ rest) g base

@@ -82,7 +82,7 @@ run-returns at n [] e t r d s c h = absurd (omega arith)
 run-returns at n (i ∷ p) e t r zero s c h =
     let w = both-true (takenAs (kindOf (i .code)) i at n) (eachTaken (at + 1) n p) t in
     onward i at n p c e r (step-sound i at n s c (kindOf (i .code)) (w .0))
-      (λ d u q. run-returns (at + 1) n p (omega arith) (w .1) (behind i p r (omega arith)) d u c q)
+    (λ d u q. run-returns (at + 1) n p (omega arith) (w .1) (behind i p r (omega arith)) d u c q)
 run-returns at n (i ∷ p) e t r (suc d) s c h =
     let w = both-true (takenAs (kindOf (i .code)) i at n) (eachTaken (at + 1) n p) t in
     run-returns (at + 1) n p (omega arith) (w .1) (behind i p r (omega arith)) d s c (omega arith)

@@ -21,7 +21,7 @@ use Rattle.definitions.specs.Format.{Each, MaskInRange, ConditionInRange, Entry
 use Rattle.definitions.specs.Answer.{indicesTaken}
 use Rattle.definitions.specs.Emitted.{jumpBy, ifEqual, load, return, highTests, lowTests, highPart, lowPart, conditionCode, helpers, near, stepCode, stepDistance, conditionsCode, distance, ruleCode, rulesCode, bodyCode, entryCode, entriesCode, numbersCode, emitted}
 use Rattle.theorems.specs.Shape.{LandsAs, Fits, Shaped}
-use Rattle.theorems.proofs.Tests.{true-both, either-true, one-below}
+use Rattle.theorems.proofs.Tests.{true-both, either-true, one-below, each-both}
 use Rattle.theorems.proofs.Conditions.{compared}
 use Rattle.theorems.proofs.Rules.{IndexTaken}
 use Rattle.theorems.proofs.Right.{EntryTaken, each-index}
@@ -68,12 +68,13 @@ each-taken at n (i ∷ p) e h =
 scratch-on : (x : Effect) (here : Words) (beyond : ℕ → Words) (p : List Instruction) → Quiet x
     → ((w : Words) (f : ℕ → Words) → scratchTaken w f p ≡ true)
     → elim x [
-        plain ↦ scratchTaken here beyond p
+      | plain ↦ scratchTaken here beyond p
       | reads k ↦ here k && scratchTaken here beyond p
       | writes k ↦ scratchTaken (withWord k here) beyond p
       | jumps d ↦ scratchTaken everyWord (narrowed here d beyond) p
       | branches d e ↦ scratchTaken everyWord (narrowed here d (narrowed here e beyond)) p
-      | leaves ↦ scratchTaken here beyond p ] ≡ true
+      | leaves ↦ scratchTaken here beyond p
+    ] ≡ true
 unfolding Quiet
 scratch-on plain here beyond p q again = again _ _
 scratch-on (reads k) here beyond p q again = absurd q
@@ -87,7 +88,7 @@ unfolding scratchTaken Shaped effectOf
 scratch-taken [] h written ahead = refl
 scratch-taken (i ∷ p) h written ahead =
     scratch-on (effectAs (kindOf (i .code)) i) _ _ p
-      (lands-taken i 0 (1 + length p) (length p) (omega arith) (kindOf (i .code)) (h .0) .1) (scratch-taken p (h .2))
+    (lands-taken i 0 (1 + length p) (length p) (omega arith) (kindOf (i .code)) (h .0) .1) (scratch-taken p (h .2))
 
 -- ---- code that may stand behind something: of this shape, with a return at its end, and long enough to be jumped into
 
@@ -110,7 +111,8 @@ unfolding Shaped LandsAs kindOf kindIn codes
 return-sound k n p b h = record {
   shaped = (tt, (omega arith, omega arith, omega arith, b), h .shaped);
   ends = ends-append (return k ∷ []) p (h .ends);
-  long = omega arith }
+  long = omega arith;
+}
 
 return-last : (k : ℕ) → k < 2 ^ 32 → Sound 0 (return k ∷ [])
 unfolding Shaped LandsAs kindOf kindIn codes endsInReturn effectOf effectAs isReturn
@@ -183,8 +185,11 @@ helpers-sound d p h = go (ltb 248 d) refl
             sound = record {
               shaped = search arith depth 16;
               ends = ends-append (jumpBy 2 ∷ jumpBy (d + 1) ∷ jumpBy (d + 1) ∷ []) p (h .sound .ends);
-              long = omega arith } },
-          omega arith)
+              long = omega arith;
+            };
+          },
+          omega arith,
+        )
     go false e = (h, omega (arith, ltb-false))
 
 -- a condition that has a byte form and looks at an argument that there is
@@ -202,9 +207,11 @@ condition-sound q d p g h n =
       sound = record {
         shaped =
             condition-shaped (q .operator) (q .width) (q .index) (q .value) (q .mask) d p (g .1) (g .0 .value) m (and-lt 64 (q .value) (q .mask) (g .0 .value) m)
-              n (omega arith) (h .sound .shaped);
+            n (omega arith) (h .sound .shaped);
         ends = ends-append (conditionCode q d) p (h .sound .ends);
-        long = omega arith } }
+        long = omega arith;
+      };
+    }
 
 step-sound : (q : Condition) (d : ℕ) (p : List Instruction) → Good q → Reach d p → Reach (stepDistance q d) (stepCode q d ++ p)
 unfolding stepDistance stepCode
@@ -230,7 +237,8 @@ module _ (m : ℕ) (hm : m < 2 ^ 32) where
       record {
         shaped = search arith depth 16;
         ends = ends-append (jumpBy 1 ∷ jumpBy (distance qs 1 + 1) ∷ []) (conditionsCode qs 1 ++ (return m ∷ rest)) (x .sound .ends);
-        long = omega arith })
+        long = omega arith;
+      })
 
   rules-sound : (rs : List Rule) (rest : List Instruction) → Each (Each Good) rs → Sound 1 rest → Sound 1 (rulesCode m rs ++ rest)
   unfolding rulesCode
@@ -256,7 +264,8 @@ module _ (m : ℕ) (hm : m < 2 ^ 32) where
         record {
           shaped = search arith depth 16;
           ends = ends-append (ifEqual (e .number) 0 1 ∷ []) (bodyCode m (e .rules) ++ (return d ∷ rest)) (x .ends);
-          long = omega arith })
+          long = omega arith;
+        })
 
     abbrev GoodEntry : Entry → Type 0
     GoodEntry e = (e .number < 2 ^ 32) × Each (Each Good) (e .rules)
@@ -276,19 +285,16 @@ module _ (m : ℕ) (hm : m < 2 ^ 32) where
         record {
           shaped = search arith depth 16;
           ends = ends-append (load 0 ∷ []) (entriesCode m d (e ∷ es) ++ (return d ∷ [])) (x .ends);
-          long = omega arith }
+          long = omega arith;
+        }
 
 -- ---- from what is known of a rule set
 
-action-small : (w : ℕ) → isAction w ≡ true → w < 2 ^ 32
+pub action-small : (w : ℕ) → isAction w ≡ true → w < 2 ^ 32
 unfolding isAction
 action-small w h =
     either-true (oneOf plainActions w) (oneOf numberedActions (w / 2 ^ 16)) (one-below (2 ^ 32) plainActions w refl)
-      (λ q. let small = one-below (2 ^ 16) numberedActions (w / 2 ^ 16) refl q in omega arith) h
-
-each-both : {A : Type 0} {P Q R : A → Type 0} → ((x : A) → P x → Q x → R x) → (xs : List A) → Each P xs → Each Q xs → Each R xs
-each-both f [] p q = tt
-each-both f (x ∷ xs) p q = (f x (p .0) (q .0), each-both f xs (p .1) (q .1))
+    (λ q. let small = one-below (2 ^ 16) numberedActions (w / 2 ^ 16) refl q in omega arith) h
 
 good-entry : (e : Entry) → EntryInRange e → EntryTaken e → (e .number < 2 ^ 32) × Each (Each Good) (e .rules)
 good-entry e r t = (r .number, each-both (λ qs. each-both (λ q a b. (a, b)) qs) (e .rules) (r .rules) t)
@@ -302,20 +308,21 @@ pub emitted-sound : (rs : RuleSet) → InRange rs → indicesTaken rs ≡ true �
 unfolding emitted Shaped LandsAs kindOf kindIn codes
 emitted-sound rs r t =
     let x = numbers-sound (rs .onMatch) (action-small (rs .onMatch) (r .onMatch)) (rs .mismatch) (action-small (rs .mismatch) (r .mismatch)) (rs .entries)
-          (each-both good-entry (rs .entries) (r .entries) (each-index rs t)) in
+    (each-both good-entry (rs .entries) (r .entries) (each-index rs t)) in
     let s = x .shaped in
     let l = x .long in
     let a = architecture-small (rs .architecture) in
     record {
       shaped = search arith depth 16;
       ends = ends-append (load 4 ∷ ifEqual (architectureWord (rs .architecture)) 1 0 ∷ return killProcess ∷ [])
-               (numbersCode (rs .onMatch) (rs .mismatch) (rs .entries)) (x .ends);
-      long = omega arith }
+          (numbersCode (rs .onMatch) (rs .mismatch) (rs .entries)) (x .ends);
+      long = omega arith;
+    }
 
 pub taken : (rs : RuleSet) → InRange rs → indicesTaken rs ≡ true → length (emitted rs) ≤ 4096 → accepts (emitted rs) ≡ true
 unfolding accepts
 taken rs r t n =
     let x = emitted-sound rs r t in
     true-both (true-both (true-both (true-both (le-leb 1 (length (emitted rs)) (x .long)) (le-leb (length (emitted rs)) 4096 n))
-      (each-taken 0 (length (emitted rs)) (emitted rs) (omega arith) (x .shaped))) (x .ends))
-      (scratch-taken (emitted rs) (x .shaped) noWord (λ d. everyWord))
+    (each-taken 0 (length (emitted rs)) (emitted rs) (omega arith) (x .shaped))) (x .ends))
+    (scratch-taken (emitted rs) (x .shaped) noWord (λ d. everyWord))

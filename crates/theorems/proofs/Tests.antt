@@ -33,3 +33,7 @@ each-of f one [] h = tt
 each-of f one (x ∷ xs) h =
     let w = both-true (f x) (all f xs) h in
     (one x (w .0), each-of f one xs (w .1))
+
+pub each-both : {A : Type 0} {P Q R : A → Type 0} → ((x : A) → P x → Q x → R x) → (xs : List A) → Each P xs → Each Q xs → Each R xs
+each-both f [] p q = tt
+each-both f (x ∷ xs) p q = (f x (p .0) (q .0), each-both f xs (p .1) (q .1))
