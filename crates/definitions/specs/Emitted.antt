@@ -86,12 +86,15 @@ conditionCode q f = onlyQword (q .width) (highPart q f) ++ lowPart q f
 
 -- ---- a rule: its conditions, the last one first, each put in front with the distance d of what stands there
 
--- Distances have 8 bits. Where d has passed 248, three helper jumps go in front first, and the distance starts again at 1.
+-- Distances have 8 bits. Where d has passed this reach, three helper jumps go in front first, and the distance starts again at 1.
+abbrev pub reach : ℕ
+reach = 248
+
 unfoldable pub helpers : ℕ → List Instruction
-helpers d = cond (ltb 248 d) (jumpBy 2 ∷ jumpBy (d + 1) ∷ jumpBy (d + 1) ∷ []) []
+helpers d = cond (ltb reach d) (jumpBy 2 ∷ jumpBy (d + 1) ∷ jumpBy (d + 1) ∷ []) []
 
 unfoldable pub near : ℕ → ℕ
-near d = cond (ltb 248 d) 1 d
+near d = cond (ltb reach d) 1 d
 
 -- a condition with its helpers, and the distance in front of it
 unfoldable pub stepCode : Condition → ℕ → List Instruction

@@ -118,3 +118,9 @@ pub data MoreEntries (old new : List Entry) : Type 0 where
       → old ≡ before ++ (record { number = n; rules = front ++ (s ∷ back) } ∷ behind)
       → new ≡ before ++ (record { number = n; rules = front ++ (r ∷ (s ∷ back)) } ∷ behind)
       → MoreEntries old new
+
+pub record Grown (old new : RuleSet) : Type 0 where
+  pub architecture : new .architecture ≡ old .architecture
+  pub mismatch : new .mismatch ≡ old .mismatch
+  pub onMatch : new .onMatch ≡ old .onMatch
+  pub entries : MoreEntries (old .entries) (new .entries)

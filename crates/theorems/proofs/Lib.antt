@@ -10,3 +10,6 @@ pub mod Taken
 pub mod Words
 pub mod Bytes
 pub mod RoundTrip
+pub mod Grows
+pub mod Lengths
+pub mod Examples

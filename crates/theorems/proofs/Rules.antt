@@ -13,7 +13,7 @@ use Rattle.definitions.specs.declared.Condition.{Condition}
 use Rattle.definitions.specs.Machine.{Call, State, Result, returns, run}
 use Rattle.definitions.specs.RuleSet.{Rule, holds, allHold}
 use Rattle.definitions.specs.Format.{Each}
-use Rattle.definitions.specs.Emitted.{jumpBy, return, conditionCode, helpers, near, stepCode, stepDistance, conditionsCode, distance, ruleCode}
+use Rattle.definitions.specs.Emitted.{jumpBy, return, reach, conditionCode, helpers, near, stepCode, stepDistance, conditionsCode, distance, ruleCode}
 use Rattle.theorems.proofs.Steps.{run-jump, run-return, run-suc, skip1, skip2, skip-one}
 use Rattle.theorems.proofs.Conditions.{Goes, condition-right, cond-and}
 
@@ -42,7 +42,7 @@ module _ (c : Call) (y n z : Result) where
   -- the helper jumps, where there are any
   helpers-built : (b : Bool) (d : ℕ) (p : List Instruction) → Built c y n z b d p → Built c y n z b (near d) (helpers d ++ p)
   unfolding helpers near
-  helpers-built b d p h = go (ltb 248 d)
+  helpers-built b d p h = go (ltb reach d)
     where
       go : (t : Bool) → Built c y n z b (cond t 1 d) (cond t (jumpBy 2 ∷ jumpBy (d + 1) ∷ jumpBy (d + 1) ∷ []) [] ++ p)
       go true = record {

@@ -19,7 +19,7 @@ use Rattle.definitions.specs.Kernel.{constantTaken, operandTaken, takenAs, each
 use Rattle.definitions.specs.RuleSet.{Architecture, x86-64, aarch64, architectureWord, Rule, Entry, RuleSet, killProcess, oneOf, plainActions, numberedActions, isAction}
 use Rattle.definitions.specs.Format.{Each, MaskInRange, ConditionInRange, EntryInRange, InRange}
 use Rattle.definitions.specs.Answer.{indicesTaken}
-use Rattle.definitions.specs.Emitted.{jumpBy, ifEqual, load, return, highTests, lowTests, highPart, lowPart, conditionCode, helpers, near, stepCode, stepDistance, conditionsCode, distance, ruleCode, rulesCode, bodyCode, entryCode, entriesCode, numbersCode, emitted}
+use Rattle.definitions.specs.Emitted.{jumpBy, ifEqual, load, return, reach, highTests, lowTests, highPart, lowPart, conditionCode, helpers, near, stepCode, stepDistance, conditionsCode, distance, ruleCode, rulesCode, bodyCode, entryCode, entriesCode, numbersCode, emitted}
 use Rattle.theorems.specs.Shape.{LandsAs, Fits, Shaped}
 use Rattle.theorems.proofs.Tests.{true-both, either-true, one-below, each-both}
 use Rattle.theorems.proofs.Conditions.{compared}
@@ -147,7 +147,7 @@ few Ne Dword i v m f = omega arith
 few Ne Qword i v m f = omega arith
 
 condition-shaped : (o : Operator) (w : Width) (i v m f : ℕ) (rest : List Instruction) → i ≤ 5 → v < 2 ^ 64 → m < 2 ^ 64 → bitAnd v m < 2 ^ 64
-    → f ≤ 248 → f < length rest → Shaped rest → Shaped (conditionCode (compared o w i v m) f ++ rest)
+    → f ≤ reach → f < length rest → Shaped rest → Shaped (conditionCode (compared o w i v m) f ++ rest)
 unfolding conditionCode highPart lowPart highTests lowTests LandsAs Shaped kindOf kindIn codes operandTaken constantTaken
 condition-shaped Eq Dword i v m f rest a b d e g h k = search arith depth 16
 condition-shaped Eq Qword i v m f rest a b d e g h k = search arith depth 16
@@ -170,12 +170,12 @@ record Reach (d : ℕ) (p : List Instruction) : Type 0 where
   far : d ≤ 254
   sound : Sound (d + 1) p
 
-helpers-sound : (d : ℕ) (p : List Instruction) → Reach d p → Reach (near d) (helpers d ++ p) × (near d ≤ 248)
+helpers-sound : (d : ℕ) (p : List Instruction) → Reach d p → Reach (near d) (helpers d ++ p) × (near d ≤ reach)
 unfolding helpers near Shaped LandsAs kindOf kindIn codes
-helpers-sound d p h = go (ltb 248 d) refl
+helpers-sound d p h = go (ltb reach d) refl
   where
-    go : (t : Bool) → ltb 248 d ≡ t
-        → Reach (cond t 1 d) (cond t (jumpBy 2 ∷ jumpBy (d + 1) ∷ jumpBy (d + 1) ∷ []) [] ++ p) × (cond t 1 d ≤ 248)
+    go : (t : Bool) → ltb reach d ≡ t
+        → Reach (cond t 1 d) (cond t (jumpBy 2 ∷ jumpBy (d + 1) ∷ jumpBy (d + 1) ∷ []) [] ++ p) × (cond t 1 d ≤ reach)
     go true e =
         let s = h .sound .shaped in
         let l = h .sound .long in
@@ -196,7 +196,7 @@ helpers-sound d p h = go (ltb 248 d) refl
 abbrev Good : Condition → Type 0
 Good q = ConditionInRange q × IndexTaken q
 
-condition-sound : (q : Condition) (d : ℕ) (p : List Instruction) → Good q → Reach d p → d ≤ 248
+condition-sound : (q : Condition) (d : ℕ) (p : List Instruction) → Good q → Reach d p → d ≤ reach
     → Reach (d + length (conditionCode q d)) (conditionCode q d ++ p)
 condition-sound q d p g h n =
     let m = mask-small (q .operator) (q .mask) (g .0 .mask) in

@@ -1,0 +1,84 @@
+-- LENGTH: the emitted filter has as many instructions as the sum over entries, rules and conditions says.
+use mathlib.Core.Path.{_≡_, refl, ap, sym, _∙_}
+use mathlib.Core.Bool.{Bool, true, false, cond}
+use mathlib.Core.List.{List, [], _∷_, _++_}
+use Prim.Native.Nat.{ℕ, _+_}
+use native.Mathlib.Omega.{arith}
+use lib.Dec.{ltb}
+use lib.ListN.{length, length-append}
+use Rattle.definitions.specs.declared.Operator.{Operator}
+use Rattle.definitions.specs.declared.Operator.the-variants.{Eq, Ge, Gt, Le, Lt, MaskedEq, Ne}
+use Rattle.definitions.specs.declared.Width.{Width}
+use Rattle.definitions.specs.declared.Width.the-variants.{Dword, Qword}
+use Rattle.definitions.specs.declared.Condition.{Condition}
+use Rattle.definitions.specs.RuleSet.{Rule, Entry, RuleSet}
+use Rattle.definitions.specs.Emitted.{jumpBy, reach, highTests, lowTests, highPart, lowPart, conditionCode, helpers, near, stepCode, stepDistance, conditionsCode, ruleCode, rulesCode, bodyCode, entryCode, entriesCode, numbersCode, emitted}
+use Rattle.theorems.specs.Length.{conditionLength, conditionsLength, sum, ruleLength, bodyLength, entryLength, filterLength}
+use Rattle.theorems.proofs.Conditions.{compared}
+
+as-parts : (o : Operator) (w : Width) (i v m f : ℕ) → length (conditionCode (compared o w i v m) f) ≡ conditionLength o w
+unfolding conditionCode highPart lowPart highTests lowTests conditionLength
+as-parts Eq Dword i v m f = refl
+as-parts Eq Qword i v m f = refl
+as-parts Ge Dword i v m f = refl
+as-parts Ge Qword i v m f = refl
+as-parts Gt Dword i v m f = refl
+as-parts Gt Qword i v m f = refl
+as-parts Le Dword i v m f = refl
+as-parts Le Qword i v m f = refl
+as-parts Lt Dword i v m f = refl
+as-parts Lt Qword i v m f = refl
+as-parts MaskedEq Dword i v m f = refl
+as-parts MaskedEq Qword i v m f = refl
+as-parts Ne Dword i v m f = refl
+as-parts Ne Qword i v m f = refl
+
+pub length-condition-code : (q : Condition) (f : ℕ) → length (conditionCode q f) ≡ conditionLength (q .operator) (q .width)
+length-condition-code q f = as-parts (q .operator) (q .width) (q .index) (q .value) (q .mask) f
+
+length-helpers : (d : ℕ) → length (helpers d) ≡ cond (ltb reach d) 3 0
+unfolding helpers
+length-helpers d = go (ltb reach d)
+  where
+    go : (t : Bool) → length (cond t (jumpBy 2 ∷ jumpBy (d + 1) ∷ jumpBy (d + 1) ∷ []) []) ≡ cond t 3 0
+    go true = refl
+    go false = refl
+
+pub length-conditions : (qs : Rule) (d : ℕ) → length (conditionsCode qs d) ≡ conditionsLength qs d
+unfolding conditionsCode conditionsLength stepCode stepDistance
+length-conditions [] d = refl
+length-conditions (q ∷ qs) d =
+    rw (length-append, length-append, length-condition-code q (near d), length-helpers d, length-conditions qs (near d + conditionLength (q .operator) (q .width)))
+    (omega arith)
+
+pub length-rule-code : (m : ℕ) (qs : Rule) → length (ruleCode m qs) ≡ ruleLength qs
+unfolding ruleCode
+length-rule-code m qs = simp length-append (omega (arith, length-conditions qs 1))
+
+pub length-rules : (m : ℕ) (rs : List Rule) → length (rulesCode m rs) ≡ sum ruleLength rs
+unfolding rulesCode
+length-rules m [] = refl
+length-rules m (r ∷ rs) = rw (length-append, length-rule-code m r, length-rules m rs)
+
+pub length-body : (m : ℕ) (rs : List Rule) → length (bodyCode m rs) ≡ bodyLength rs
+unfolding bodyCode bodyLength
+length-body m [] = refl
+length-body m (r ∷ rs) = length-rules m (r ∷ rs)
+
+pub length-entry-code : (m d : ℕ) (e : Entry) → length (entryCode m d e) ≡ entryLength e
+unfolding entryCode
+length-entry-code m d e = simp length-append (omega (arith, length-body m (e .rules)))
+
+pub length-entries : (m d : ℕ) (es : List Entry) → length (entriesCode m d es) ≡ sum entryLength es
+unfolding entriesCode
+length-entries m d [] = refl
+length-entries m d (e ∷ es) = rw (length-append, length-entry-code m d e, length-entries m d es)
+
+length-numbers : (m d : ℕ) (es : List Entry) → 3 + length (numbersCode m d es) ≡ filterLength es
+unfolding numbersCode filterLength
+length-numbers m d [] = refl
+length-numbers m d (e ∷ es) = rw (length-append, length-entries m d (e ∷ es)) (omega arith)
+
+pub length-emitted : (rs : RuleSet) → length (emitted rs) ≡ filterLength (rs .entries)
+unfolding emitted
+length-emitted rs = omega (arith, length-numbers (rs .onMatch) (rs .mismatch) (rs .entries))
