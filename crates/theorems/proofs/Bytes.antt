@@ -14,6 +14,7 @@ use Rattle.definitions.specs.RuleSet.{RuleSet, meaning}
 use Rattle.definitions.specs.Format.{Each, InRange}
 use Rattle.definitions.specs.Answer.{indicesTaken}
 use Rattle.definitions.specs.Emitted.{emitted}
+use Rattle.theorems.specs.Statements.{Bytes, RightBytes, TakenBytes, OnceBytes}
 use Rattle.theorems.specs.Shape.{Fits, Shaped}
 use Rattle.theorems.proofs.Tests.{true-both}
 use Rattle.theorems.proofs.Words.{number-bytes, number-here, number-past, byte-past}
@@ -62,19 +63,17 @@ unfolding Shaped
 shaped-fits [] h = tt
 shaped-fits (i ∷ p) h = (h .1, shaped-fits p (h .2))
 
-module _ (rs : RuleSet) (r : InRange rs) (t : indicesTaken rs ≡ true) where
-  -- the emitted filter's bytes stand for the emitted filter
-  pub emitted-back : filterOf (filterBytes (emitted rs)) ≡ emitted rs
-  emitted-back = filter-back (emitted rs) (shaped-fits (emitted rs) (emitted-sound rs r t .shaped))
+pub emitted-back : Bytes
+emitted-back rs r t = filter-back (emitted rs) (shaped-fits (emitted rs) (emitted-sound rs r t .shaped))
 
-  pub bytes-right : (c : Call) → runs (filterOf (filterBytes (emitted rs))) c ≡ returns (meaning rs c)
-  bytes-right c = rw emitted-back (right rs t c)
+pub bytes-right : RightBytes
+bytes-right rs r t c = rw (emitted-back rs r t) (right rs t c)
 
-  pub bytes-taken : length (emitted rs) ≤ 4096 → acceptsBytes (filterBytes (emitted rs)) ≡ true
-  unfolding acceptsBytes
-  bytes-taken n =
-      let l = length-filter (emitted rs) in
-      true-both (eq-eqb (length (filterBytes (emitted rs)) % 8) 0 (omega arith)) (rw emitted-back (taken rs r t n))
+pub bytes-taken : TakenBytes
+unfolding acceptsBytes
+bytes-taken rs r t n =
+    let l = length-filter (emitted rs) in
+    true-both (eq-eqb (length (filterBytes (emitted rs)) % 8) 0 (omega arith)) (rw (emitted-back rs r t) (taken rs r t n))
 
 -- bytes that stand for a filter are run like every filter: at most one step an instruction, and there is one for each eight bytes
 length-instructions : (bs : List ℕ) (n at : ℕ) → length (instructionsAt bs n at) ≡ n
@@ -82,6 +81,6 @@ unfolding instructionsAt
 length-instructions bs zero at = refl
 length-instructions bs (suc n) at = ap suc (length-instructions bs n (at + 8))
 
-pub bytes-once : (bs : List ℕ) (c : Call) → Climbs 0 (length bs / 8) (visits 0 0 (filterOf bs) start c) × (steps (filterOf bs) c ≤ length bs / 8)
+pub bytes-once : OnceBytes
 unfolding filterOf
 bytes-once bs c = rw (length-instructions bs (length bs / 8) 0) at (once (filterOf bs) c)

@@ -7,6 +7,7 @@ use lib.Dec.{eqb}
 use borrow.Author.Tests.{eqb-true}
 use Rattle.definitions.specs.Machine.{Call}
 use Rattle.definitions.specs.RuleSet.{Rule, Entry, RuleSet, architectureWord, allHold, anyHolds, matches, listed, meaning, isListed, MoreEntries, listing, adding, Grown, killProcess}
+use Rattle.theorems.specs.Statements.{Grows}
 
 -- ---- a rule more
 
@@ -104,7 +105,7 @@ module _ (c : Call) (m d : ℕ) where
       (same-front before (record { number = n; rules = front ++ (s ∷ back) } ∷ behind) (record { number = n; rules = front ++ (r ∷ (s ∷ back)) } ∷ behind)
       (same-behind n (front ++ (s ∷ back)) (front ++ (r ∷ (s ∷ back))) behind (matches-more c front back r s)) (rw p at h))
 
-pub grows : (old new : RuleSet) → Grown old new → (c : Call) → meaning old c ≡ old .onMatch → meaning new c ≡ new .onMatch
+pub grows : Grows
 unfolding meaning
 grows old new g c h =
     rw (g .architecture, g .mismatch, g .onMatch) (go (eqb (c .architecture) (architectureWord (old .architecture))) h)

@@ -13,6 +13,7 @@ use Rattle.definitions.specs.declared.Width.the-variants.{Dword, Qword}
 use Rattle.definitions.specs.declared.Condition.{Condition}
 use Rattle.definitions.specs.RuleSet.{Rule, Entry, RuleSet}
 use Rattle.definitions.specs.Emitted.{jumpBy, reach, highTests, lowTests, highPart, lowPart, conditionCode, helpers, near, stepCode, stepDistance, conditionsCode, ruleCode, rulesCode, bodyCode, entryCode, entriesCode, numbersCode, emitted}
+use Rattle.theorems.specs.Statements.{Lengths}
 use Rattle.theorems.specs.Length.{conditionLength, conditionsLength, sum, ruleLength, bodyLength, entryLength, filterLength}
 use Rattle.theorems.proofs.Conditions.{compared}
 
@@ -79,6 +80,6 @@ unfolding numbersCode filterLength
 length-numbers m d [] = refl
 length-numbers m d (e ∷ es) = rw (length-append, length-entries m d (e ∷ es)) (omega arith)
 
-pub length-emitted : (rs : RuleSet) → length (emitted rs) ≡ filterLength (rs .entries)
+pub length-emitted : Lengths
 unfolding emitted
 length-emitted rs = omega (arith, length-numbers (rs .onMatch) (rs .mismatch) (rs .entries))

@@ -12,4 +12,3 @@ pub mod Bytes
 pub mod RoundTrip
 pub mod Grows
 pub mod Lengths
-pub mod Examples

@@ -6,6 +6,7 @@ use native.Mathlib.Omega.{arith}
 use lib.ListN.{length}
 use Rattle.definitions.specs.declared.Instruction.{Instruction}
 use Rattle.definitions.specs.Machine.{Call, State, Step, stop, next, step, visits, start, steps, Climbs}
+use Rattle.theorems.specs.Statements.{Once}
 
 climbs-lower : (at n : ℕ) (ks : List ℕ) → Climbs (at + 1) n ks → Climbs at n ks
 climbs-lower at n [] h = tt
@@ -27,7 +28,7 @@ visits-climb at zero (i ∷ p) s c end e =
     go again (next n t) = again n t
 visits-climb at (suc n) (i ∷ p) s c end e = climbs-lower at end (visits (at + 1) n p s c) (visits-climb (at + 1) n p s c end (omega arith))
 
-pub once : (p : List Instruction) (c : Call) → Climbs 0 (length p) (visits 0 0 p start c) × (steps p c ≤ length p)
+pub once : Once
 once p c =
     let h = visits-climb 0 0 p start c (length p) (omega arith) in
     (h, omega (arith, climbs-few 0 (length p) (visits 0 0 p start c) (omega arith) h))

@@ -12,6 +12,7 @@ use Rattle.definitions.specs.RuleSet.{Rule, Entry, RuleSet, allHold, anyHolds, 
 use Rattle.definitions.specs.Format.{Each}
 use Rattle.definitions.specs.Answer.{indicesTaken}
 use Rattle.definitions.specs.Emitted.{return, conditionsCode, distance, ruleCode, rulesCode, bodyCode, entryCode, entriesCode, numbersCode, emitted}
+use Rattle.theorems.specs.Statements.{Right}
 use Rattle.theorems.proofs.Tests.{each-of}
 use Rattle.theorems.proofs.Steps.{run-load, run-return, run-equal, skip1, fetch-number, fetch-architecture}
 use Rattle.theorems.proofs.Conditions.{Goes, cond-or}
@@ -71,7 +72,7 @@ numbers-right m d [] c g s = run-return [] s c d
 numbers-right m d (e ∷ es) c g s =
     run-load _ s c 0 (fetch-number c) ∙ entries-right m d (e ∷ es) c g (setA (c .number) s) refl
 
-pub right : (rs : RuleSet) → indicesTaken rs ≡ true → (c : Call) → runs (emitted rs) c ≡ returns (meaning rs c)
+pub right : Right
 unfolding emitted meaning
 right rs taken c =
     run-load _ start c 4 (fetch-architecture c)

@@ -22,6 +22,7 @@ use Rattle.definitions.specs.RuleSet.{Architecture, x86-64, aarch64, Rule, Entr
 use Rattle.definitions.specs.Format.{architectureNumber, widthNumber, operatorNumber, joined, encodeCondition, encodeRule, encodeEntry, encode}
 use Rattle.definitions.specs.Format.{Each, MaskInRange, ConditionInRange, EntryInRange, InRange}
 use Rattle.definitions.specs.Format.{architectureOf, widthOf, operatorOf, maskTaken, Read, then, check, times, conditionAt, ruleAt, entryAt, read}
+use Rattle.theorems.specs.Statements.{RoundTrip, OneForm}
 use Rattle.theorems.proofs.Tests.{both-true, true-both, each-both}
 use Rattle.theorems.proofs.Taken.{action-small}
 use Rattle.theorems.proofs.Conditions.{compared}
@@ -414,9 +415,9 @@ module _ (bs : List ℕ) (bytes : AreBytes bs) where
       (record { mismatch = t2 .1; onMatch = t3 .1; entries = entries .0 .good; size = rw whole (leb-true (length bs) (2 ^ 20) (t1 .0)) }, whole)
 
 -- bytes are of the format exactly when they are what is written of a rule set in range
-pub formatted : (bs : List ℕ) → AreBytes bs → (rs : RuleSet) → (read bs ≡ some rs) ↔ (InRange rs × (encode rs ≡ bs))
+pub formatted : RoundTrip
 formatted bs bytes rs = (read-written bs bytes rs, λ w. rw (w .1) at (written-read rs (w .0)))
 
 -- no two byte strings are one rule set
-pub one-form : (a b : List ℕ) → AreBytes a → AreBytes b → (rs : RuleSet) → read a ≡ some rs → read b ≡ some rs → a ≡ b
+pub one-form : OneForm
 one-form a b bytes-a bytes-b rs p q = sym (read-written a bytes-a rs p .1) ∙ read-written b bytes-b rs q .1

@@ -13,6 +13,7 @@ use Rattle.definitions.specs.Machine.{Call, State, Result, returns, stuck, Step
 use Rattle.definitions.specs.Machine.{Kind, ldAbs, ldLen, ldImm, ldMem, ldxLen, ldxImm, ldxMem, st, stx, tax, txa, neg, ja, retK, retA, unknown, alu, jump}
 use Rattle.definitions.specs.Machine.{fetch, words, kindOf, intoA, compute, testHolds, operand, stepAs, step, run, runs, start}
 use Rattle.definitions.specs.Kernel.{takenAs, eachTaken, Effect, effectAs, effectOf, isReturn, endsInReturn, scratchTaken, noWord, everyWord, accepts}
+use Rattle.theorems.specs.Statements.{Safe}
 use Rattle.theorems.proofs.Tests.{both-true}
 
 -- a step, at place `at` of n instructions, that ends with an action or goes to a place that there is
@@ -87,7 +88,7 @@ run-returns at n (i ∷ p) e t r (suc d) s c h =
     let w = both-true (takenAs (kindOf (i .code)) i at n) (eachTaken (at + 1) n p) t in
     run-returns (at + 1) n p (omega arith) (w .1) (behind i p r (omega arith)) d s c (omega arith)
 
-pub safe : (p : List Instruction) → accepts p ≡ true → (c : Call) → (a : ℕ) × (runs p c ≡ returns a)
+pub safe : Safe
 unfolding accepts
 safe p h c =
     let scratch = both-true _ (scratchTaken noWord (λ d. everyWord) p) h in

@@ -20,6 +20,7 @@ use Rattle.definitions.specs.RuleSet.{Architecture, x86-64, aarch64, architectu
 use Rattle.definitions.specs.Format.{Each, MaskInRange, ConditionInRange, EntryInRange, InRange}
 use Rattle.definitions.specs.Answer.{indicesTaken}
 use Rattle.definitions.specs.Emitted.{jumpBy, ifEqual, load, return, reach, highTests, lowTests, highPart, lowPart, conditionCode, helpers, near, stepCode, stepDistance, conditionsCode, distance, ruleCode, rulesCode, bodyCode, entryCode, entriesCode, numbersCode, emitted}
+use Rattle.theorems.specs.Statements.{Taken}
 use Rattle.theorems.specs.Shape.{LandsAs, Fits, Shaped}
 use Rattle.theorems.proofs.Tests.{true-both, either-true, one-below, each-both}
 use Rattle.theorems.proofs.Conditions.{compared}
@@ -319,7 +320,7 @@ emitted-sound rs r t =
       long = omega arith;
     }
 
-pub taken : (rs : RuleSet) → InRange rs → indicesTaken rs ≡ true → length (emitted rs) ≤ 4096 → accepts (emitted rs) ≡ true
+pub taken : Taken
 unfolding accepts
 taken rs r t n =
     let x = emitted-sound rs r t in

@@ -1,4 +1,4 @@
--- EXAMPLES, by computation: a worked filter with a table of the calls that it decides, four wrong filters with a call that shows each,
+-- Examples of Emitted, by computation: a worked filter with a table of the calls that it decides, four wrong filters with a call that shows each,
 -- the smallest rule sets, and rules long enough for the helper jumps.
 use mathlib.Core.Path.{_≡_, refl}
 use mathlib.Core.Bool.{Bool, true, false, not, _&&_}
@@ -6,29 +6,23 @@ use mathlib.Core.List.{List, [], _∷_, _++_}
 use Prim.Native.Nat.{ℕ, _+_, _-_, _^_}
 use lib.Dec.{eqb}
 use lib.ListN.{length, take, replicate, set as put}
 use Rattle.definitions.specs.declared.Instruction.{Instruction}
 use Rattle.definitions.specs.declared.Operator.{Operator}
 use Rattle.definitions.specs.declared.Operator.the-variants.{Eq, Ge, Gt, Le, Lt, MaskedEq, Ne}
 use Rattle.definitions.specs.declared.Width.{Width}
 use Rattle.definitions.specs.declared.Width.the-variants.{Dword, Qword}
 use Rattle.definitions.specs.declared.Condition.{Condition}
 use Rattle.definitions.specs.Machine.{Call, Result, returns, stuck, words, fetch, codes, kindIn, kindOf, intoA, compute, testHolds, stepAs, step, run, visits, runs, steps}
 use Rattle.definitions.specs.RuleSet.{Architecture, x86-64, aarch64, architectureWord, Rule, Entry, RuleSet, test, holds, allHold, anyHolds, matches, listed, meaning}
 use Rattle.definitions.specs.Answer.{all}
 use Rattle.definitions.specs.Emitted.{load, maskBy, jumpBy, ifEqual, ifGreater, ifAtLeast, return, highTests, lowTests, highPart, lowPart, conditionCode, helpers, near, stepCode, stepDistance, conditionsCode, distance, ruleCode, rulesCode, bodyCode, entryCode, entriesCode, numbersCode, emitted}
-use Rattle.theorems.proofs.Conditions.{compared}
+use Rattle.definitions.proofs.Examples.RuleSet.{compared, allow, errno, call}
 
 -- ---- the worked filter
 
-abbrev allow : ℕ
-allow = 0x7fff0000
-
-abbrev errno : ℕ → ℕ
-errno n = 0x00050000 + n
-
 -- x86-64, mismatch errno 1, match allow. 0: no rules. 1: argument 0 dword eq 1.
 -- 257: argument 2 qword masked eq 0, mask 3; or argument 1 qword ge 2 ^ 32.
-abbrev worked : RuleSet
+abbrev pub worked : RuleSet
 worked = record {
   architecture = x86-64;
   mismatch = errno 1;
@@ -41,7 +35,7 @@ worked = record {
 }
 
 -- its 36 instructions
-abbrev workedFilter : List Instruction
+abbrev pub workedFilter : List Instruction
 workedFilter =
     load 4 ∷ ifEqual 0xc000003e 1 0 ∷ return 0x80000000
     ∷ load 0 ∷ ifEqual 0 0 1 ∷ jumpBy 1
@@ -59,20 +53,6 @@ workedFilter =
 worked-emitted : emitted worked ≡ workedFilter
 unfolding emitted numbersCode entriesCode entryCode bodyCode rulesCode ruleCode conditionsCode distance stepCode stepDistance helpers near conditionCode highPart lowPart highTests lowTests architectureWord
 worked-emitted = refl
-
--- a call on x86-64: number, first three arguments
-abbrev call : ℕ → ℕ → ℕ → ℕ → Call
-call n a b c = record {
-  number = n;
-  architecture = 0xc000003e;
-  pointer = 0;
-  argument0 = a;
-  argument1 = b;
-  argument2 = c;
-  argument3 = 0;
-  argument4 = 0;
-  argument5 = 0;
-}
 
 abbrev elsewhere : Call
 elsewhere = record {
@@ -173,6 +153,52 @@ nothing-listed = refl
 masked-value : conditionCode (compared MaskedEq Dword 0 36 4) 1 ≡ load 16 ∷ maskBy 4 ∷ ifEqual 4 0 1 ∷ []
 unfolding conditionCode highPart lowPart highTests lowTests
 masked-value = refl
+
+-- ---- the code of each operator and width: argument 1 against 2 ^ 33 + 5, mask 2 ^ 33 + 2 ^ 32 + 7, with 9 to jump where it fails
+
+abbrev value : ℕ
+value = 2 ^ 33 + 5
+
+abbrev mask : ℕ
+mask = 2 ^ 33 + 2 ^ 32 + 7
+
+abbrev codeFor : Operator → Width → List Instruction
+codeFor o w = conditionCode (compared o w 1 value mask) 9
+
+record Coded : Type 0 where
+  eq : codeFor Eq Dword ≡ load 24 ∷ ifEqual 5 0 9 ∷ []
+  eq-wide : codeFor Eq Qword ≡ load 28 ∷ ifEqual 2 0 11 ∷ load 24 ∷ ifEqual 5 0 9 ∷ []
+  ne : codeFor Ne Dword ≡ load 24 ∷ ifEqual 5 9 0 ∷ []
+  ne-wide : codeFor Ne Qword ≡ load 28 ∷ ifEqual 2 0 2 ∷ load 24 ∷ ifEqual 5 9 0 ∷ []
+  ge : codeFor Ge Dword ≡ load 24 ∷ ifAtLeast 5 0 9 ∷ []
+  ge-wide : codeFor Ge Qword ≡ load 28 ∷ ifGreater 2 3 0 ∷ ifEqual 2 0 11 ∷ load 24 ∷ ifAtLeast 5 0 9 ∷ []
+  gt : codeFor Gt Dword ≡ load 24 ∷ ifGreater 5 0 9 ∷ []
+  gt-wide : codeFor Gt Qword ≡ load 28 ∷ ifGreater 2 3 0 ∷ ifEqual 2 0 11 ∷ load 24 ∷ ifGreater 5 0 9 ∷ []
+  le : codeFor Le Dword ≡ load 24 ∷ ifGreater 5 9 0 ∷ []
+  le-wide : codeFor Le Qword ≡ load 28 ∷ ifGreater 2 12 0 ∷ ifEqual 2 0 2 ∷ load 24 ∷ ifGreater 5 9 0 ∷ []
+  lt : codeFor Lt Dword ≡ load 24 ∷ ifAtLeast 5 9 0 ∷ []
+  lt-wide : codeFor Lt Qword ≡ load 28 ∷ ifGreater 2 12 0 ∷ ifEqual 2 0 2 ∷ load 24 ∷ ifAtLeast 5 9 0 ∷ []
+  masked : codeFor MaskedEq Dword ≡ load 24 ∷ maskBy 7 ∷ ifEqual 5 0 9 ∷ []
+  masked-wide : codeFor MaskedEq Qword ≡ load 28 ∷ maskBy 3 ∷ ifEqual 2 0 12 ∷ load 24 ∷ maskBy 7 ∷ ifEqual 5 0 9 ∷ []
+
+coded : Coded
+unfolding conditionCode highPart lowPart highTests lowTests
+coded = record {
+  eq = refl;
+  eq-wide = refl;
+  ne = refl;
+  ne-wide = refl;
+  ge = refl;
+  ge-wide = refl;
+  gt = refl;
+  gt-wide = refl;
+  le = refl;
+  le-wide = refl;
+  lt = refl;
+  lt-wide = refl;
+  masked = refl;
+  masked-wide = refl;
+}
 
 -- ---- rules with helper jumps
 

@@ -1,0 +1,113 @@
+-- Examples of Format and Answer, by computation: for each answer a smallest rule set that gets it, as bytes.
+use mathlib.Core.Path.{_≡_, refl}
+use mathlib.Core.Bool.{Bool, true, false, cond, not, _&&_}
+use mathlib.Core.List.{List, [], _∷_, _++_}
+use mathlib.Core.Option.{Option, none, some}
+use Prim.Native.Nat.{ℕ, _+_, _-_, _^_}
+use lib.Dec.{eqb}
+use lib.ListN.{length, take, replicate, set as put}
+use Rattle.definitions.specs.declared.Operator.the-variants.{Eq, Ge, Gt, Le, Lt, MaskedEq, Ne}
+use Rattle.definitions.specs.declared.Width.the-variants.{Dword, Qword}
+use Rattle.definitions.specs.declared.Condition.{Condition}
+use Rattle.definitions.specs.declared.Answer.{Answer}
+use Rattle.definitions.specs.Word.{bytesOf, numberOf, numberAt}
+use Rattle.definitions.specs.RuleSet.{x86-64, aarch64, architectureWord, oneOf, isAction, Rule, Entry, RuleSet}
+use Rattle.definitions.specs.Format.{architectureNumber, widthNumber, operatorNumber, encodeCondition, encodeRule, encodeEntry, encode, architectureOf, widthOf, operatorOf, maskTaken, times, conditionAt, ruleAt, entryAt, read}
+use Rattle.definitions.specs.Answer.{ascending, all, answerWith, answerOf}
+use Rattle.definitions.specs.Emitted.{highTests, lowTests, highPart, lowPart, conditionCode, helpers, near, stepCode, stepDistance, conditionsCode, distance, ruleCode, rulesCode, bodyCode, entryCode, entriesCode, numbersCode, emitted}
+use Rattle.definitions.proofs.Examples.RuleSet.{compared, allow, errno}
+
+-- the byte form, in full: aarch64, mismatch errno 1, match allow; number 257: argument 2 qword masked eq 4, mask 6
+spelled : encode (record {
+  architecture = aarch64;
+  mismatch = errno 1;
+  onMatch = allow;
+  entries = record { number = 257; rules = (compared MaskedEq Qword 2 4 6 ∷ []) ∷ [] } ∷ [];
+})
+    ≡ 2 ∷ 0 ∷ 0 ∷ 0 ∷ 1 ∷ 0 ∷ 5 ∷ 0 ∷ 0 ∷ 0 ∷ 0xff ∷ 0x7f ∷ 1 ∷ 0 ∷ 0 ∷ 0
+    ∷ 1 ∷ 1 ∷ 0 ∷ 0 ∷ 1 ∷ 0 ∷ 0 ∷ 0
+    ∷ 1 ∷ 0 ∷ 0 ∷ 0
+    ∷ 2 ∷ 8 ∷ 5 ∷ 0 ∷ 0 ∷ 0 ∷ 0 ∷ 0 ∷ 4 ∷ 0 ∷ 0 ∷ 0 ∷ 0 ∷ 0 ∷ 0 ∷ 0 ∷ 6 ∷ 0 ∷ 0 ∷ 0 ∷ 0 ∷ 0 ∷ 0 ∷ 0 ∷ []
+unfolding encode encodeEntry encodeRule encodeCondition bytesOf architectureNumber widthNumber operatorNumber
+spelled = refl
+
+-- a set with mismatch action d and some entries
+abbrev listing : ℕ → List Entry → List ℕ
+listing d es = encode (record { architecture = x86-64; mismatch = d; onMatch = allow; entries = es })
+
+abbrev plain : ℕ → Entry
+plain n = record { number = n; rules = [] }
+
+-- number 1 with one rule
+abbrev ruled : Rule → List Entry
+ruled r = record { number = 1; rules = r ∷ [] } ∷ []
+
+-- bytes, room, and the answer's two numbers
+record Row : Type 0 where
+  bytes : List ℕ
+  room : ℕ
+  code : ℕ
+  count : ℕ
+
+abbrev row : List ℕ → ℕ → ℕ → ℕ → Row
+row bs r a n = record { bytes = bs; room = r; code = a; count = n }
+
+abbrev condition : List Entry
+condition = ruled (compared Ge Qword 0 1 0 ∷ [])
+
+abbrev table : List Row
+table =
+    row (listing (errno 1) []) 32 0 4
+    ∷ row (listing (errno 1) (plain 0 ∷ [])) 80 0 10
+    ∷ row (listing (errno 1) condition) 120 0 15
+    -- 1: cut short, a byte left over, an unknown architecture, action, width or operator, a byte that is not zero where zero is due,
+    -- a mask without masked eq, a count beyond the end
+    ∷ row [] 32 1 0
+    ∷ row (take 15 (listing (errno 1) [])) 32 1 0
+    ∷ row (listing (errno 1) [] ++ (0 ∷ [])) 32 1 0
+    ∷ row (put (listing (errno 1) []) 0 0) 32 1 0
+    ∷ row (put (listing (errno 1) []) 0 3) 32 1 0
+    ∷ row (put (listing (errno 1) []) 1 1) 32 1 0
+    ∷ row (listing 1 []) 32 1 0
+    ∷ row (put (listing (errno 1) []) 8 1) 32 1 0
+    ∷ row (take 51 (listing (errno 1) condition)) 120 1 0
+    ∷ row (put (listing (errno 1) condition) 29 5) 120 1 0
+    ∷ row (put (listing (errno 1) condition) 30 7) 120 1 0
+    ∷ row (put (listing (errno 1) condition) 31 1) 120 1 0
+    ∷ row (put (listing (errno 1) condition) 35 1) 120 1 0
+    ∷ row (put (listing (errno 1) condition) 51 1) 120 1 0
+    ∷ row (put (listing (errno 1) condition) 27 255) 120 1 0
+    ∷ row (put (listing (errno 1) condition) 23 255) 120 1 0
+    ∷ row (put (listing (errno 1) condition) 15 255) 120 1 0
+    -- 2: a number twice, or not ascending
+    ∷ row (listing (errno 1) (plain 1 ∷ plain 1 ∷ [])) 0 2 0
+    ∷ row (listing (errno 1) (plain 2 ∷ plain 1 ∷ [])) 0 2 0
+    -- 3
+    ∷ row (listing allow []) 0 3 0
+    -- 4
+    ∷ row (listing (errno 1) (ruled [])) 0 4 0
+    -- 5
+    ∷ row (listing (errno 1) (ruled (compared Eq Dword 6 0 0 ∷ []))) 0 5 0
+    -- 7
+    ∷ row (listing (errno 1) []) 31 7 4
+    -- the smallest of several: 2 before 3, 3 before 4, 4 before 5, 5 before 7
+    ∷ row (listing allow (plain 1 ∷ plain 1 ∷ [])) 0 2 0
+    ∷ row (listing allow (ruled [])) 0 3 0
+    ∷ row (listing (errno 1) (record { number = 1; rules = (compared Eq Dword 6 0 0 ∷ []) ∷ [] ∷ [] } ∷ [])) 0 4 0
+    ∷ []
+
+abbrev rowHolds : Row → Bool
+rowHolds r = let a = answerOf (r .bytes) (r .room) in eqb (a .code) (r .code) && eqb (a .count) (r .count)
+
+table-holds : all rowHolds table ≡ true
+unfolding answerOf answerWith ascending read entryAt ruleAt conditionAt times maskTaken operatorOf widthOf architectureOf isAction oneOf numberAt numberOf encode encodeEntry encodeRule encodeCondition bytesOf architectureNumber widthNumber operatorNumber architectureWord emitted numbersCode entriesCode entryCode bodyCode rulesCode ruleCode conditionsCode distance stepCode stepDistance helpers near conditionCode highPart lowPart highTests lowTests
+table-holds = refl
+
+-- 6: the limit itself, by the number of instructions alone
+abbrev smallest : RuleSet
+smallest = record { architecture = x86-64; mismatch = errno 1; onMatch = allow; entries = [] }
+
+limit : (answerWith 4095 smallest 40000 ≡ record { code = 0; count = 4095 }) × (answerWith 4096 smallest 40000 ≡ record { code = 6; count = 4096 })
+    × (answerWith 4096 smallest 0 ≡ record { code = 6; count = 4096 }) × (answerWith 4095 smallest 32759 ≡ record { code = 7; count = 4095 })
+unfolding answerWith ascending
+limit = (refl, refl, refl, refl)

@@ -1,0 +1,91 @@
+-- Examples of RuleSet, by computation: each operator and width at values around the edges of a word.
+use mathlib.Core.Path.{_≡_, refl}
+use mathlib.Core.Bool.{Bool, true, false, cond, not, _&&_}
+use mathlib.Core.List.{List, [], _∷_}
+use Prim.Native.Nat.{ℕ, _+_, _-_, _^_}
+use lib.Dec.{eqb}
+use Rattle.definitions.specs.declared.Operator.{Operator}
+use Rattle.definitions.specs.declared.Operator.the-variants.{Eq, Ge, Gt, Le, Lt, MaskedEq, Ne}
+use Rattle.definitions.specs.declared.Width.{Width}
+use Rattle.definitions.specs.declared.Width.the-variants.{Dword, Qword}
+use Rattle.definitions.specs.declared.Condition.{Condition}
+use Rattle.definitions.specs.Machine.{Call}
+use Rattle.definitions.specs.RuleSet.{oneOf, isAction, test, holds}
+use Rattle.definitions.specs.Answer.{all}
+
+abbrev pub compared : Operator → Width → ℕ → ℕ → ℕ → Condition
+compared o w i v m = record { index = i; width = w; operator = o; value = v; mask = m }
+
+abbrev pub allow : ℕ
+allow = 0x7fff0000
+
+abbrev pub errno : ℕ → ℕ
+errno n = 0x00050000 + n
+
+-- a call on x86-64: number, first three arguments
+abbrev pub call : ℕ → ℕ → ℕ → ℕ → Call
+call n a b c = record {
+  number = n;
+  architecture = 0xc000003e;
+  pointer = 0;
+  argument0 = a;
+  argument1 = b;
+  argument2 = c;
+  argument3 = 0;
+  argument4 = 0;
+  argument5 = 0;
+}
+
+-- ---- does an operator hold below, at and above a value
+
+abbrev same : Bool → Bool → Bool
+same true b = b
+same false b = not b
+
+record Row : Type 0 where
+  operator : Operator
+  below : Bool
+  at : Bool
+  above : Bool
+
+abbrev row : Operator → Bool → Bool → Bool → Row
+row o a b c = record { operator = o; below = a; at = b; above = c }
+
+abbrev orders : List Row
+orders =
+    row Eq false true false ∷ row Ge false true true ∷ row Gt false false true
+    ∷ row Le true true false ∷ row Lt true false false ∷ row Ne true false true ∷ []
+
+abbrev rowHolds : Width → ℕ → Row → Bool
+rowHolds w v r =
+    same (r .below) (holds (call 0 (v - 1) 0 0) (compared (r .operator) w 0 v 0))
+    && same (r .at) (holds (call 0 v 0 0) (compared (r .operator) w 0 v 0))
+    && same (r .above) (holds (call 0 (v + 1) 0 0) (compared (r .operator) w 0 v 0))
+
+orders-hold : (all (λ (v : ℕ). all (rowHolds Qword v) orders) (1 ∷ (2 ^ 31) ∷ (2 ^ 32) ∷ (2 ^ 32 + 1) ∷ (2 ^ 63) ∷ (2 ^ 64 - 2) ∷ []) ≡ true)
+    × (all (λ (v : ℕ). all (rowHolds Dword v) orders) (1 ∷ (2 ^ 31) ∷ (2 ^ 32 - 2) ∷ []) ≡ true)
+unfolding holds test
+orders-hold = (refl, refl)
+
+-- a dword looks at the low half of argument and value only
+low-half : all (holds (call 0 (2 ^ 32 + 5) 0 0)) (compared Eq Dword 0 5 0 ∷ compared Eq Dword 0 (2 ^ 33 + 5) 0 ∷ compared Lt Dword 0 6 0 ∷ []) ≡ true
+unfolding holds test
+low-half = refl
+
+-- masked eq looks at the masked bits of both
+masked-bits : (all (holds (call 0 44 0 0)) (compared MaskedEq Qword 0 36 4 ∷ compared MaskedEq Dword 0 4 4 ∷ compared MaskedEq Qword 0 0 3 ∷ []) ≡ true)
+    × (holds (call 0 44 0 0) (compared MaskedEq Qword 0 36 12) ≡ false)
+unfolding holds test
+masked-bits = (refl, refl)
+
+-- the argument is the one at the index
+indexed : (holds (call 0 1 2 3) (compared Eq Qword 2 3 0) ≡ true) × (holds (call 0 1 2 3) (compared Eq Qword 1 3 0) ≡ false)
+unfolding holds test
+indexed = (refl, refl)
+
+-- ---- action words
+
+actions : (all isAction (0x80000000 ∷ 0 ∷ 0x00030000 ∷ 0x00050000 ∷ 0x0005ffff ∷ 0x7ff00000 ∷ 0x7ff0ffff ∷ 0x7ffc0000 ∷ 0x7fff0000 ∷ []) ≡ true)
+    × (all (λ (w : ℕ). not (isAction w)) (1 ∷ 0x00030001 ∷ 0x00040000 ∷ 0x00060000 ∷ 0x7fc00000 ∷ 0x7ffc0001 ∷ 0x7fff0001 ∷ 0x80000001 ∷ []) ≡ true)
+unfolding isAction oneOf
+actions = (refl, refl)

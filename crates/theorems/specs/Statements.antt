@@ -1,0 +1,73 @@
+-- The theorems, as statements in the words of the definitions. Each is proved in the file of proofs/ that bears its name.
+use Prim.Native.Nat.{ℕ, _-_, _/_, _≤_}
+use mathlib.Core.Path.{_≡_}
+use mathlib.Core.Logic.{_↔_}
+use mathlib.Core.Bool.{true}
+use mathlib.Core.List.{List}
+use mathlib.Core.Option.{some}
+use lib.ListN.{length}
+use Rattle.definitions.specs.declared.Instruction.{Instruction}
+use Rattle.definitions.specs.Word.{AreBytes}
+use Rattle.definitions.specs.Machine.{filterBytes, filterOf, Call, returns, start, run, runs, visits, steps, Climbs}
+use Rattle.definitions.specs.Kernel.{accepts, acceptsBytes}
+use Rattle.definitions.specs.RuleSet.{RuleSet, meaning, Grown}
+use Rattle.definitions.specs.Emitted.{emitted}
+use Rattle.definitions.specs.Format.{InRange, encode, read}
+use Rattle.definitions.specs.Answer.{indicesTaken}
+use Rattle.theorems.specs.Length.{filterLength}
+
+-- ---- of the emitted filter
+
+-- it returns, for every call, the action that the rule set means
+abbrev pub Right : Type 0
+Right = (rs : RuleSet) → indicesTaken rs ≡ true → (c : Call) → runs (emitted rs) c ≡ returns (meaning rs c)
+
+-- the kernel's checks pass, where it is short enough for the kernel
+abbrev pub Taken : Type 0
+Taken = (rs : RuleSet) → InRange rs → indicesTaken rs ≡ true → length (emitted rs) ≤ 4096 → accepts (emitted rs) ≡ true
+
+-- it is as long as a sum over entries, rules and conditions says
+abbrev pub Lengths : Type 0
+Lengths = (rs : RuleSet) → length (emitted rs) ≡ filterLength (rs .entries)
+
+-- ---- of every filter
+
+-- a run goes from instruction to later instruction and stays inside, so that it executes none twice and at most as many as there are
+abbrev pub Once : Type 0
+Once = (p : List Instruction) (c : Call) → Climbs 0 (length p) (visits 0 0 p start c) × (steps p c ≤ length p)
+
+-- one that the kernel takes is never stuck: every run returns an action
+abbrev pub Safe : Type 0
+Safe = (p : List Instruction) → accepts p ≡ true → (c : Call) → (a : ℕ) × (runs p c ≡ returns a)
+
+-- ---- of bytes
+
+-- the emitted filter's bytes stand for the emitted filter
+abbrev pub Bytes : Type 0
+Bytes = (rs : RuleSet) → InRange rs → indicesTaken rs ≡ true → filterOf (filterBytes (emitted rs)) ≡ emitted rs
+
+-- so the three promises hold of the bytes
+abbrev pub RightBytes : Type 0
+RightBytes = (rs : RuleSet) → InRange rs → indicesTaken rs ≡ true → (c : Call) → runs (filterOf (filterBytes (emitted rs))) c ≡ returns (meaning rs c)
+
+abbrev pub TakenBytes : Type 0
+TakenBytes =
+    (rs : RuleSet) → InRange rs → indicesTaken rs ≡ true → length (emitted rs) ≤ 4096 → acceptsBytes (filterBytes (emitted rs)) ≡ true
+
+abbrev pub OnceBytes : Type 0
+OnceBytes =
+    (bs : List ℕ) (c : Call) → Climbs 0 (length bs / 8) (visits 0 0 (filterOf bs) start c) × (steps (filterOf bs) c ≤ length bs / 8)
+
+-- ---- of rule sets
+
+-- bytes are of the format exactly when they are what is written of a rule set in range, and then that rule set is read from them
+abbrev pub RoundTrip : Type 0
+RoundTrip = (bs : List ℕ) → AreBytes bs → (rs : RuleSet) → (read bs ≡ some rs) ↔ (InRange rs × (encode rs ≡ bs))
+
+-- two different byte strings never are one rule set
+abbrev pub OneForm : Type 0
+OneForm = (a b : List ℕ) → AreBytes a → AreBytes b → (rs : RuleSet) → read a ≡ some rs → read b ≡ some rs → a ≡ b
+
+-- with one more number listed, or one more rule in an entry that has rules, what matched still matches
+abbrev pub Grows : Type 0
+Grows = (old new : RuleSet) → Grown old new → (c : Call) → meaning old c ≡ old .onMatch → meaning new c ≡ new .onMatch
