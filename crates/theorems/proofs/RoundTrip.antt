@@ -23,7 +23,7 @@ use Rattle.definitions.specs.Format.{architectureNumber, widthNumber, operatorN
 use Rattle.definitions.specs.Format.{Each, MaskInRange, ConditionInRange, EntryInRange, InRange}
 use Rattle.definitions.specs.Format.{architectureOf, widthOf, operatorOf, maskTaken, Read, then, check, times, conditionAt, ruleAt, entryAt, read}
 use Rattle.theorems.specs.Statements.{RoundTrip, OneForm}
-use Rattle.theorems.proofs.Tests.{both-true, true-both, each-both}
+use Rattle.theorems.proofs.Tests.{both-true, true-both, each-both, then-some, check-some}
 use Rattle.theorems.proofs.Taken.{action-small}
 use Rattle.theorems.proofs.Conditions.{compared}
 use Rattle.theorems.proofs.Words.{length-bytes, number-bytes, number-here, number-past, number-front, byte-here, byte-past, number-drop, byte-drop, number-at-small}
@@ -246,15 +246,6 @@ written-read rs g =
 record Spells {A : Type 0} (enc : A → List ℕ) (P : A → Type 0) (bs : List ℕ) (at : ℕ) (r : Read A) : Type 0 where
   here : drop at bs ≡ enc (r .value) ++ drop (r .past) bs
   good : P (r .value)
-
--- a chain of tests and parts that came out with something
-then-some : {A B : Type 0} (x : Option A) (f : A → Option B) {b : B} → then x f ≡ some b → (a : A) × (x ≡ some a) × (f a ≡ some b)
-then-some none f h = absurd (let z : _≡_ {A = ℕ} 0 1 = cc in omega arith)
-then-some (some a) f h = (a, refl, h)
-
-check-some : {A : Type 0} (t : Bool) (x : Option A) {a : A} → check t x ≡ some a → (t ≡ true) × (x ≡ some a)
-check-some true x h = (refl, h)
-check-some false x h = absurd (let z : _≡_ {A = ℕ} 0 1 = cc in omega arith)
 
 some-same : {A : Type 0} {a b : A} → some a ≡ some b → a ≡ b
 some-same h = cc

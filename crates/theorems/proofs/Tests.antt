@@ -2,12 +2,13 @@
 use mathlib.Core.Path.{_≡_, refl}
 use mathlib.Core.Bool.{Bool, true, false, _&&_, _||_}
 use mathlib.Core.List.{List, [], _∷_}
+use mathlib.Core.Option.{Option, none, some}
 use Prim.Native.Nat.{ℕ, _<_}
 use native.Mathlib.Omega.{arith}
 use lib.Dec.{eqb, ltb}
 use borrow.Author.Tests.{eqb-true, ltb-true}
 use Rattle.definitions.specs.RuleSet.{oneOf}
-use Rattle.definitions.specs.Format.{Each}
+use Rattle.definitions.specs.Format.{Each, then, check}
 use Rattle.definitions.specs.Answer.{all}
 
 pub both-true : (a b : Bool) → (a && b) ≡ true → (a ≡ true) × (b ≡ true)
@@ -37,3 +38,12 @@ each-of f one (x ∷ xs) h =
 pub each-both : {A : Type 0} {P Q R : A → Type 0} → ((x : A) → P x → Q x → R x) → (xs : List A) → Each P xs → Each Q xs → Each R xs
 each-both f [] p q = tt
 each-both f (x ∷ xs) p q = (f x (p .0) (q .0), each-both f xs (p .1) (q .1))
+
+-- a chain of tests and parts that came out with something
+pub then-some : {A B : Type 0} (x : Option A) (f : A → Option B) {b : B} → then x f ≡ some b → (a : A) × (x ≡ some a) × (f a ≡ some b)
+then-some none f h = absurd (let z : _≡_ {A = ℕ} 0 1 = cc in omega arith)
+then-some (some a) f h = (a, refl, h)
+
+pub check-some : {A : Type 0} (t : Bool) (x : Option A) {a : A} → check t x ≡ some a → (t ≡ true) × (x ≡ some a)
+check-some true x h = (refl, h)
+check-some false x h = absurd (let z : _≡_ {A = ℕ} 0 1 = cc in omega arith)

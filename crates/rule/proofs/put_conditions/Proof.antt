@@ -1,0 +1,110 @@
+-- `put_conditions` meets its contract. The loop's invariant: what is left, written in front of what is there, is the whole; and the
+-- distance in front of what is left is that in front of the whole. Assumes nothing.
+use mathlib.Core.Path.{_≡_, refl, sym, _∙_}
+use Prim.Native.Nat.{_+_, _*_, _≤_}
+use native.Mathlib.Omega.{arith}
+use borrow.Author.Needs.{needs}
+use lib.ListN.{length}
+use denote.Ref.{now}
+use Rattle.definitions.specs.Emitted.{conditionsCode, distance}
+use Rattle.bpf.proofs.Laws.{WritingBefore, before-begin, before-turn, before-end}
+use Rattle.rule.specs.At.{conditionsHere}
+use Rattle.rule.proofs.Laws.{code-more, code-none, step-room, distance-more, distance-none}
+use Rattle.rule.proofs.put_conditions.Statement.{statement}
+use Rattle.rule.proofs.put_conditions.Tie as tie
+
+abbrev Inv-loop : tie.InvT-loop
+Inv-loop out₀ s n from end at₀ d₀ here₀ left₀ out at d here left =
+    WritingBefore out₀ end (conditionsCode (conditionsHere s n from) 1) out at (conditionsCode (conditionsHere s left here) d)
+    × (distance (conditionsHere s left here) d ≡ distance (conditionsHere s n from) 1)
+    × (here + 24 * left ≤ length s)
+
+abbrev μ-loop : tie.MeasureT-loop
+μ-loop out₀ s n from end at₀ d₀ here₀ left₀ out at d here left = left
+
+loop-holds : tie.Need-loop-holds Inv-loop μ-loop
+loop-holds c = (before-begin _ _ _ (omega arith) (omega arith), refl, omega arith)
+
+condition-here-requires : tie.Need-condition-here-requires Inv-loop μ-loop
+condition-here-requires c κs = omega arith
+
+step-length-requires : tie.Need-step-length-requires Inv-loop μ-loop
+step-length-requires c κs = search needs
+
+mul-at : tie.Need-mul-at Inv-loop μ-loop
+mul-at c = omega arith
+
+sub-at : tie.Need-sub-at Inv-loop μ-loop
+sub-at c =
+    let s = now (c .before .before .before .before .before .before .before .args .s) in
+    let left = c .before .before .before .before .loop .left in
+    let here = c .before .before .before .before .loop .here in
+    let d = c .before .before .before .before .loop .d in
+    let r = step-room s left here d (c .before .before .before .loop-test .taken) (c .before .before .before .before .loop .inv .0) in
+    let n = rw (c .before .before .condition-here .ensures) at (c .before .step-length .ensures .0) in
+    omega arith
+
+put-step-requires : tie.Need-put-step-requires Inv-loop μ-loop
+put-step-requires c κs =
+    let s = now (c .before .before .before .before .before .before .before .before .args .s) in
+    let left = c .before .before .before .before .before .loop .left in
+    let here = c .before .before .before .before .before .loop .here in
+    let d = c .before .before .before .before .before .loop .d in
+    let r = step-room s left here d (c .before .before .before .before .loop-test .taken) (c .before .before .before .before .before .loop .inv .0) in
+    let n = rw (c .before .before .before .condition-here .ensures) at (c .before .before .step-length .ensures .0) in
+    omega (arith, c .before .before .before .before .before .loop .inv .0 .fits)
+
+add-here : tie.Need-add-here Inv-loop μ-loop
+add-here c = omega arith
+
+sub-left : tie.Need-sub-left Inv-loop μ-loop
+sub-left c = omega arith
+
+loop-less : tie.Need-loop-less Inv-loop μ-loop
+loop-less c = omega arith
+
+loop-again : tie.Need-loop-again Inv-loop μ-loop
+loop-again c =
+    let s = now (c .before .before .before .before .before .before .before .before .before .before .before .args .s) in
+    let left = c .before .before .before .before .before .before .before .before .loop .left in
+    let here = c .before .before .before .before .before .before .before .before .loop .here in
+    let d = c .before .before .before .before .before .before .before .before .loop .d in
+    let r = step-room s left here d (c .before .before .before .before .before .before .before .loop-test .taken) (c .before .before .before .before .before .before .before .before .loop .inv .0) in
+    let n = rw (c .before .before .before .before .before .before .condition-here .ensures) at (c .before .before .before .before .before .step-length .ensures .0) in
+    let e = rw (c .before .before .before .before .before .before .condition-here .ensures) at (c .before .before .before .before .before .step-length .ensures .1) in
+    let o = rw (c .before .before .before .before .before .before .condition-here .ensures) at (c .before .before .put-step .ensures) in (
+      rw e (before-turn _ _ _ _ _ _ _ _ _ _ (c .before .before .before .before .before .before .before .before .loop .inv .0) (code-more s left here d (c .before .before .before .before .before .before .before .loop-test .taken)) (omega arith) o (c .before .before .put-step .kept .0)),
+      rw e (sym (distance-more s left here d (c .before .before .before .before .before .before .before .loop-test .taken)) ∙ c .before .before .before .before .before .before .before .before .loop .inv .1),
+      omega arith,
+    )
+
+same-length : tie.Need-same-length Inv-loop μ-loop
+same-length c = c .before .loop .inv .0 .long
+
+returns : tie.Need-returns Inv-loop μ-loop
+returns c =
+    let s = now (c .before .before .before .before .args .s) in
+    let left = c .before .loop .left in
+    let here = c .before .loop .here in
+    let d = c .before .loop .d in
+    let e = c .loop-test .left in
+    (before-end _ _ _ _ _ _ (c .before .loop .inv .0) (code-none s left here d e), sym (distance-none s left here d e) ∙ c .before .loop .inv .1)
+
+pub put-conditions-spec : {M : Type 1} → statement M
+put-conditions-spec =
+    tie.close
+    (tie.spec
+    Inv-loop
+    μ-loop
+    loop-holds
+    condition-here-requires
+    step-length-requires
+    mul-at
+    sub-at
+    put-step-requires
+    add-here
+    sub-left
+    loop-less
+    loop-again
+    same-length
+    returns)

@@ -1,0 +1,200 @@
+// Rules as instructions, from a rule set's bytes, which the caller has shown to be in the format. A rule is written backwards
+// from its end: how far a condition jumps depends on what stands behind it.
+ghost use mathlib.Core.Path.{_≡_};
+ghost use Prim.Native.Nat.{ℕ, _+_, _*_, _≤_, _<_};
+ghost use lib.Dec.{ltb};
+ghost use lib.ListN.{length};
+ghost use Rattle.definitions.specs.Machine.{filterBytes};
+ghost use Rattle.definitions.specs.Emitted as emitted;
+ghost use Rattle.definitions.specs.Emitted.{helpers, stepCode, stepDistance, conditionsCode, distance, ruleCode, rulesCode};
+ghost use Rattle.bpf.specs.Place.{place, placeBefore};
+ghost use Rattle.rule.specs.At.{conditionsHere, rulesHere, rulesPast};
+use bpf::jump_by;
+use bpf::wide;
+use condition::condition_here;
+use definitions::Condition;
+
+// How many bytes a condition has.
+const CONDITION_SIZE: usize = 24;
+
+// Whether helper jumps have to go in front: one condition more, and a jump may not fit its 8 bits.
+fn is_far(d: u8) -> bool
+    ensures { λ r. ⌜ r ≡ ltb emitted.reach d ⌝ }
+{
+    248 < d
+}
+
+fn near(d: u8) -> u8
+    ensures { λ r. ⌜ r ≡ emitted.near d ⌝ }
+{
+    if is_far(d) {
+        return 1;
+    }
+    d
+}
+
+fn helper_count(d: u8) -> usize
+    ensures { λ r. ⌜ (r ≡ length (helpers d)) × (r ≤ 3) ⌝ }
+{
+    if is_far(d) {
+        return 3;
+    }
+    0
+}
+
+fn put_helpers(out: &mut [u8], at: usize, d: u8)
+    requires { ⌜ at + 8 * length (helpers d) ≤ length (now out) ⌝ }
+    ensures { λ _. ⌜ now (out .exit) ≡ place (now (out .entry)) at (filterBytes (helpers d)) ⌝ }
+{
+    if is_far(d) {
+        let far = jump_by(wide(d) + 1);
+        bpf::put(out, at, jump_by(2));
+        bpf::put(out, at + 8, far);
+        bpf::put(out, at + 16, far);
+    }
+}
+
+// How many instructions a condition puts in front, and the distance then.
+pub struct Step {
+    pub count: usize,
+    pub distance: u8,
+}
+
+fn step_length(q: Condition, d: u8) -> Step
+    ensures { λ r. ⌜ (r .count ≡ length (stepCode q d)) × (r .distance ≡ stepDistance q d) × (r .count ≤ 9) ⌝ }
+{
+    let count = condition::condition_length(q);
+    Step {
+        count: count + helper_count(d),
+        distance: near(d) + (count as u8),
+    }
+}
+
+fn put_step(out: &mut [u8], at: usize, q: Condition, d: u8)
+    requires { ⌜ at + 8 * length (stepCode q d) ≤ length (now out) ⌝ }
+    ensures { λ _. ⌜ now (out .exit) ≡ place (now (out .entry)) at (filterBytes (stepCode q d)) ⌝ }
+{
+    let behind = condition::put_condition(out, at, q, near(d));
+    put_helpers(out, behind, d);
+}
+
+// Writes n conditions so that they end at a place, and answers the distance in front of them.
+fn put_conditions(out: &mut [u8], s: &[u8], n: u32, from: usize, end: usize) -> u8
+    requires { ⌜ (from + 24 * n ≤ length (now s)) × (length (now s) ≤ 1048576) ⌝ }
+    requires { ⌜ (8 * length (conditionsCode (conditionsHere (now s) n from) 1) ≤ end) × (end ≤ length (now out)) ⌝ }
+    ensures { λ r. ⌜ (now (out .exit) ≡ placeBefore (now (out .entry)) end (filterBytes (conditionsCode (conditionsHere (now (s .entry)) n from) 1)))
+        × (r ≡ distance (conditionsHere (now (s .entry)) n from) 1) ⌝ }
+{
+    let mut at = end;
+    let mut d: u8 = 1;
+    let mut here = from;
+    let mut left = n;
+    while left != 0 {
+        let q = condition_here(s, here);
+        let step = step_length(q, d);
+        at = at - 8 * step.count;
+        put_step(out, at, q, d);
+        d = step.distance;
+        here = here + CONDITION_SIZE;
+        left = left - 1;
+    }
+    d
+}
+
+// How many instructions a rule of n conditions has.
+fn rule_length(s: &[u8], n: u32, from: usize) -> usize
+    requires { ⌜ (from + 24 * n ≤ length (now s)) × (length (now s) ≤ 1048576) ⌝ }
+    ensures { λ r. ⌜ ((m : ℕ) → length (ruleCode m (conditionsHere (now (s .entry)) n from)) ≡ r) × (r ≤ 3 + 9 * n) ⌝ }
+{
+    // two jumps and the return
+    let mut count: usize = 3;
+    let mut d: u8 = 1;
+    let mut here = from;
+    let mut left = n;
+    while left != 0 {
+        let step = step_length(condition_here(s, here), d);
+        count = count + step.count;
+        d = step.distance;
+        here = here + CONDITION_SIZE;
+        left = left - 1;
+    }
+    count
+}
+
+// Writes a rule of n conditions at a place, and answers the place behind it. Match action m.
+fn put_rule(out: &mut [u8], s: &[u8], n: u32, from: usize, at: usize, m: u32) -> usize
+    requires { ⌜ (from + 24 * n ≤ length (now s)) × (length (now s) ≤ 1048576) ⌝ }
+    requires { ⌜ at + 8 * length (ruleCode m (conditionsHere (now s) n from)) ≤ length (now out) ⌝ }
+    ensures { λ r. ⌜ (now (out .exit) ≡ place (now (out .entry)) at (filterBytes (ruleCode m (conditionsHere (now (s .entry)) n from))))
+        × (r ≡ at + 8 * length (ruleCode m (conditionsHere (now (s .entry)) n from))) ⌝ }
+{
+    let last = at + 8 * rule_length(s, n, from) - 8;
+    bpf::put(out, last, bpf::give(m));
+    let d = put_conditions(out, s, n, from, last);
+    bpf::put(out, at, jump_by(1));
+    bpf::put(out, at + 8, jump_by(wide(d) + 1));
+    last + 8
+}
+
+// Where the conditions of a rule end, the rule standing at a place with its number of conditions.
+fn rule_past(at: usize, n: u32) -> usize
+    requires { ⌜ at + 4 + 24 * n ≤ 1048576 ⌝ }
+    ensures { λ r. ⌜ r ≡ at + 4 + 24 * n ⌝ }
+{
+    at + 4 + CONDITION_SIZE * (n as usize)
+}
+
+// How many instructions rules have, and the place behind them in the rule set.
+pub struct Length {
+    pub count: usize,
+    pub past: usize,
+}
+
+pub fn rules_length(s: &[u8], n: u32, from: usize) -> Length
+    requires { ⌜ (rulesPast (now s) n from ≤ length (now s)) × (length (now s) ≤ 1048576) ⌝ }
+    ensures { λ r. ⌜ ((m : ℕ) → length (rulesCode m (rulesHere (now (s .entry)) n from)) ≡ r .count)
+        × (r .past ≡ rulesPast (now (s .entry)) n from) × (r .count + from ≤ r .past) ⌝ }
+{
+    let mut count: usize = 0;
+    let mut past = from;
+    let mut left = n;
+    while left != 0 {
+        let conditions = bpf::u32_at(s, past);
+        count = count + rule_length(s, conditions, past + 4);
+        past = rule_past(past, conditions);
+        left = left - 1;
+    }
+    Length {
+        count: count,
+        past: past,
+    }
+}
+
+// The place behind what was written, and the place behind what it was written from.
+pub struct Written {
+    pub end: usize,
+    pub past: usize,
+}
+
+// Writes n rules at a place. Match action m.
+pub fn put_rules(out: &mut [u8], s: &[u8], n: u32, from: usize, at: usize, m: u32) -> Written
+    requires { ⌜ (rulesPast (now s) n from ≤ length (now s)) × (length (now s) ≤ 1048576) ⌝ }
+    requires { ⌜ at + 8 * length (rulesCode m (rulesHere (now s) n from)) ≤ length (now out) ⌝ }
+    ensures { λ r. ⌜ (now (out .exit) ≡ place (now (out .entry)) at (filterBytes (rulesCode m (rulesHere (now (s .entry)) n from))))
+        × (r .end ≡ at + 8 * length (rulesCode m (rulesHere (now (s .entry)) n from)))
+        × (r .past ≡ rulesPast (now (s .entry)) n from) ⌝ }
+{
+    let mut end = at;
+    let mut past = from;
+    let mut left = n;
+    while left != 0 {
+        let conditions = bpf::u32_at(s, past);
+        end = put_rule(out, s, conditions, past + 4, end, m);
+        past = rule_past(past, conditions);
+        left = left - 1;
+    }
+    Written {
+        end: end,
+        past: past,
+    }
+}
