@@ -60,7 +60,8 @@ pub struct Step {
     pub distance: u8,
 }
 
-fn step_length(q: Condition, d: u8) -> Step
+// The two numbers of a condition and its helpers, for a walk that sums them.
+pub fn step_length(q: Condition, d: u8) -> Step
     ensures { λ r. ⌜ (r .count ≡ length (stepCode q d)) × (r .distance ≡ stepDistance q d) × (r .count ≤ 9) ⌝ }
 {
     let count = condition::condition_length(q);

@@ -52,6 +52,11 @@ length-conditions (q ∷ qs) d =
     rw (length-append, length-append, length-condition-code q (near d), length-helpers d, length-conditions qs (near d + conditionLength (q .operator) (q .width)))
     (omega arith)
 
+-- a condition more in front of others
+pub length-step : (q : Condition) (qs : Rule) (d : ℕ) → conditionsLength (q ∷ qs) d ≡ conditionsLength qs (stepDistance q d) + length (stepCode q d)
+unfolding conditionsCode
+length-step q qs d = rw (← length-conditions (q ∷ qs) d, ← length-conditions qs (stepDistance q d)) (length-append (conditionsCode qs (stepDistance q d)) (stepCode q d))
+
 pub length-rule-code : (m : ℕ) (qs : Rule) → length (ruleCode m qs) ≡ ruleLength qs
 unfolding ruleCode
 length-rule-code m qs = simp length-append (omega (arith, length-conditions qs 1))

@@ -23,7 +23,7 @@ use Rattle.definitions.specs.Format.{architectureNumber, widthNumber, operatorN
 use Rattle.definitions.specs.Format.{Each, MaskInRange, ConditionInRange, EntryInRange, InRange}
 use Rattle.definitions.specs.Format.{architectureOf, widthOf, operatorOf, maskTaken, Read, then, check, times, conditionAt, ruleAt, entryAt, read}
 use Rattle.theorems.specs.Statements.{RoundTrip, OneForm}
-use Rattle.theorems.proofs.Tests.{both-true, true-both, each-both, then-some, check-some}
+use Rattle.theorems.proofs.Tests.{both-true, true-both, each-both, then-some, check-some, some-same}
 use Rattle.theorems.proofs.Taken.{action-small}
 use Rattle.theorems.proofs.Conditions.{compared}
 use Rattle.theorems.proofs.Words.{length-bytes, number-bytes, number-here, number-past, number-front, byte-here, byte-past, number-drop, byte-drop, number-at-small}
@@ -246,9 +246,6 @@ written-read rs g =
 record Spells {A : Type 0} (enc : A → List ℕ) (P : A → Type 0) (bs : List ℕ) (at : ℕ) (r : Read A) : Type 0 where
   here : drop at bs ≡ enc (r .value) ++ drop (r .past) bs
   good : P (r .value)
-
-some-same : {A : Type 0} {a b : A} → some a ≡ some b → a ≡ b
-some-same h = cc
 
 times-forth : {A : Type 0} (enc : A → List ℕ) (P : A → Type 0) (bs : List ℕ) (f : ℕ → Option (Read A))
     → ((at : ℕ) (r : Read A) → f at ≡ some r → Spells enc P bs at r)

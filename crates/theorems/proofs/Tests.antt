@@ -47,3 +47,6 @@ then-some (some a) f h = (a, refl, h)
 pub check-some : {A : Type 0} (t : Bool) (x : Option A) {a : A} → check t x ≡ some a → (t ≡ true) × (x ≡ some a)
 check-some true x h = (refl, h)
 check-some false x h = absurd (let z : _≡_ {A = ℕ} 0 1 = cc in omega arith)
+
+pub some-same : {A : Type 0} {a b : A} → some a ≡ some b → a ≡ b
+some-same h = cc

@@ -1,0 +1,95 @@
+-- `scan_entries` meets its contract. The loop's invariant: what is left, scanned from here with what was summed so far, is the whole.
+use mathlib.Core.Path.{_≡_, refl, sym, _∙_}
+use native.Mathlib.Omega.{arith}
+use borrow.Author.Needs.{needs}
+use borrow.Author.Tests.{not-true, not-false}
+use denote.Ref.{now}
+use Prim.Native.Nat.{_+_, _≤_}
+use mathlib.Core.Bool.{true}
+use lib.ListN.{length}
+use Rattle.definitions.specs.Format.{times, entryAt}
+use Rattle.ruleset.specs.Scan.{entriesScan}
+use Rattle.ruleset.proofs.Laws.{broken-off, ok-of, entry-room, entries-stop, entries-turn, entries-end}
+use Rattle.ruleset.proofs.scan_entries.Statement.{statement}
+use Rattle.ruleset.proofs.scan_entries.Tie as tie
+
+abbrev Inv-loop : tie.InvT-loop
+Inv-loop s n from count₀ filled₀ indexed₀ ascending₀ least₀ at₀ left₀ count filled indexed ascending least at left =
+    (at ≤ length s) × (count + from ≤ at)
+    × (entriesScan 0 true true true 0 (times (entryAt s) n from) ≡ entriesScan count filled indexed ascending least (times (entryAt s) left at))
+
+abbrev μ-loop : tie.MeasureT-loop
+μ-loop s n from count₀ filled₀ indexed₀ ascending₀ least₀ at₀ left₀ count filled indexed ascending least at left =
+    left
+
+loop-holds : tie.Need-loop-holds Inv-loop μ-loop
+loop-holds c = (omega arith, omega arith, refl)
+
+scan-entry-requires : tie.Need-scan-entry-requires Inv-loop μ-loop
+scan-entry-requires c κs = omega arith
+
+not-there-requires : tie.Need-not-there-requires Inv-loop μ-loop
+not-there-requires c κs = search needs
+
+returns : tie.Need-returns Inv-loop μ-loop
+returns c =
+    broken-off _ _ (c .not-there .ensures) (c .before .before .before .before .before .loop .inv .2 ∙ entries-stop _ _ _ _ _ _ _ _ (c .before .before .before .before .loop-test .taken) (ok-of (c .before .before .before .scan-entry .ensures .same) (not-true (c .before .before .before .scan-entry .result .ok) (c .before .if1 .taken))))
+
+number-at-requires : tie.Need-number-at-requires Inv-loop μ-loop
+number-at-requires c κs =
+    omega (arith, entry-room _ _ (ok-of (c .before .before .scan-entry .ensures .same) (not-false (c .before .before .scan-entry .result .ok) (c .if1 .left))))
+
+add-count : tie.Need-add-count Inv-loop μ-loop
+add-count c = omega (arith, c .before .before .before .before .scan-entry .ensures .inside (not-false (c .before .before .before .before .scan-entry .result .ok) (c .before .before .if1 .left)))
+
+both-requires : tie.Need-both-requires Inv-loop μ-loop
+both-requires c κs = search needs
+
+both-requires-2 : tie.Need-both-requires-2 Inv-loop μ-loop
+both-requires-2 c κs = search needs
+
+both-requires-3 : tie.Need-both-requires-3 Inv-loop μ-loop
+both-requires-3 c κs = search needs
+
+add-least : tie.Need-add-least Inv-loop μ-loop
+add-least c = omega (arith, c .before .before .before .before .number-at .ensures .1)
+
+sub-left : tie.Need-sub-left Inv-loop μ-loop
+sub-left c = omega arith
+
+loop-less : tie.Need-loop-less Inv-loop μ-loop
+loop-less c = omega arith
+
+loop-again : tie.Need-loop-again Inv-loop μ-loop
+loop-again c =
+    let ok = not-false (c .before .before .before .before .before .before .before .scan-entry .result .ok) (c .before .before .before .before .before .if1 .left) in
+    let in-bytes = c .before .before .before .before .before .before .before .scan-entry .ensures .inside ok in (
+      in-bytes .0,
+      omega arith,
+      c .before .before .before .before .before .before .before .before .before .loop .inv .2 ∙ entries-turn _ _ _ _ _ _ _ _ (c .before .before .before .before .before .before .before .scan-entry .result) (c .before .before .before .before .before .before .before .before .loop-test .taken) (c .before .before .before .before .before .before .before .scan-entry .ensures .same) ok ∙ rw (← c .before .before .before .before .number-at .ensures .0, ← c .before .before .both .ensures, ← c .before .both2 .ensures, ← c .both3 .ensures),
+    )
+
+returns-2 : tie.Need-returns-2 Inv-loop μ-loop
+returns-2 c =
+    record { same = sym (c .before .loop .inv .2 ∙ entries-end _ _ _ _ _ _ _ _ (c .loop-test .left)); inside = λ e. (omega arith, omega arith) }
+
+pub scan-entries-spec : {M : Type 1} → statement M
+scan-entries-spec =
+    tie.close
+    (tie.spec
+    Inv-loop
+    μ-loop
+    loop-holds
+    scan-entry-requires
+    not-there-requires
+    returns
+    number-at-requires
+    add-count
+    both-requires
+    both-requires-2
+    both-requires-3
+    add-least
+    sub-left
+    loop-less
+    loop-again
+    returns-2)

@@ -1,0 +1,151 @@
+-- What a walk over a part of a rule set's bytes has to find, said by what the format's reader gives there. A walk carries sums along;
+-- each function here takes what was summed so far, so that a loop's invariant is one equation.
+use Prim.Native.Nat.{ℕ, _+_, _/_, _≤_}
+use mathlib.Core.Path.{_≡_}
+use mathlib.Core.Bool.{Bool, true, false, cond, not, _&&_, _||_}
+use mathlib.Core.List.{List, [], _∷_}
+use mathlib.Core.Option.{Option, none, some}
+use lib.Dec.{eqb, leb}
+use lib.ListN.{length, getD}
+use Rattle.definitions.specs.Word.{numberAt}
+use Rattle.definitions.specs.RuleSet.{Rule, Entry, RuleSet, isAction}
+use Rattle.definitions.specs.Format.{Read}
+use Rattle.definitions.specs.Answer.{all, hasConditions, indexTaken, ascending, rulesFilled, indicesTaken}
+use Rattle.theorems.specs.Length.{conditionsLength, sum, ruleLength, entryLength, filterLength}
+use Rattle.ruleset.specs.declared.Scan.{Scan}
+
+abbrev pub isThere : {A : Type 0} → Option A → Bool
+isThere none = false
+isThere (some a) = true
+
+unfoldable pub widthKnown : ℕ → Bool
+widthKnown w = eqb w 4 || eqb w 8
+
+unfoldable pub architectureKnown : ℕ → Bool
+architectureKnown a = eqb a 1 || eqb a 2
+
+-- the tests of a condition's 24 bytes, in the order of the code
+unfoldable pub conditionTaken : List ℕ → ℕ → Bool
+conditionTaken s at =
+    leb (at + 24) (length s)
+    && (eqb (numberAt 8 s at / 16777216) 0
+    && (widthKnown (getD s (at + 1) 0)
+    && (leb (getD s (at + 2) 0) 6 && (eqb (getD s (at + 2) 0) 5 || eqb (numberAt 8 s (at + 16)) 0))))
+
+abbrev pub notThere : Scan
+notThere = record { ok = false; past = 0; count = 0; filled = false; indexed = false; ascending = false }
+
+-- a walk that began at `from` in so many bytes
+pub record Scanned (found : Scan) (from size : ℕ) (r : Scan) : Type 0 where
+  pub same : r ≡ found
+  pub inside : r .ok ≡ true → (r .past ≤ size) × (r .count + from ≤ r .past)
+
+-- conditions: n instructions so far, the distance d, all indices so far at most 5
+unfoldable pub conditionsScan : ℕ → ℕ → Bool → Option (Read Rule) → Scan
+conditionsScan n d i none = notThere
+conditionsScan n d i (some r) =
+    record {
+      ok = true;
+      past = r .past;
+      count = n + conditionsLength (r .value) d;
+      filled = true;
+      indexed = i && all indexTaken (r .value);
+      ascending = true;
+    }
+
+unfoldable pub ruleScan : Option (Read Rule) → Scan
+ruleScan none = notThere
+ruleScan (some r) =
+    record {
+      ok = true;
+      past = r .past;
+      count = ruleLength (r .value);
+      filled = hasConditions (r .value);
+      indexed = all indexTaken (r .value);
+      ascending = true;
+    }
+
+-- a rule, from the scan of its n conditions
+unfoldable pub ruleFrom : ℕ → Scan → Scan
+ruleFrom n c =
+    cond (c .ok)
+    (record { ok = true; past = c .past; count = c .count + 3; filled = not (eqb n 0); indexed = c .indexed; ascending = true })
+    notThere
+
+unfoldable pub rulesScan : ℕ → Bool → Bool → Option (Read (List Rule)) → Scan
+rulesScan n f i none = notThere
+rulesScan n f i (some r) =
+    record {
+      ok = true;
+      past = r .past;
+      count = n + sum ruleLength (r .value);
+      filled = f && all hasConditions (r .value);
+      indexed = i && all (all indexTaken) (r .value);
+      ascending = true;
+    }
+
+abbrev pub bodyOr : ℕ → ℕ → ℕ
+bodyOr n rules = cond (eqb n 0) 3 rules
+
+unfoldable pub entryScan : Option (Read Entry) → Scan
+entryScan none = notThere
+entryScan (some r) =
+    record {
+      ok = true;
+      past = r .past;
+      count = entryLength (r .value);
+      filled = all hasConditions (r .value .rules);
+      indexed = all (all indexTaken) (r .value .rules);
+      ascending = true;
+    }
+
+-- an entry, from the scan of its n rules
+unfoldable pub entryFrom : ℕ → Scan → Scan
+entryFrom n c =
+    cond (c .ok)
+    (record { ok = true; past = c .past; count = bodyOr n (c .count) + 2; filled = c .filled; indexed = c .indexed; ascending = true })
+    notThere
+
+-- every number at least the one that is the least allowed where it stands
+unfoldable pub ascendingFrom : ℕ → List Entry → Bool
+ascendingFrom least [] = true
+ascendingFrom least (e ∷ es) = leb least (e .number) && ascendingFrom (e .number + 1) es
+
+unfoldable pub entriesScan : ℕ → Bool → Bool → Bool → ℕ → Option (Read (List Entry)) → Scan
+entriesScan n f i a least none = notThere
+entriesScan n f i a least (some r) =
+    record {
+      ok = true;
+      past = r .past;
+      count = n + sum entryLength (r .value);
+      filled = f && all (λ (e : Entry). all hasConditions (e .rules)) (r .value);
+      indexed = i && all (λ (e : Entry). all (all indexTaken) (e .rules)) (r .value);
+      ascending = a && ascendingFrom least (r .value);
+    }
+
+-- the tests of the head
+unfoldable pub headTaken : List ℕ → Bool
+headTaken s = architectureKnown (numberAt 4 s 0) && (isAction (numberAt 4 s 4) && isAction (numberAt 4 s 8))
+
+abbrev pub filterOr : ℕ → ℕ → ℕ
+filterOr n entries = cond (eqb n 0) 4 (entries + 5)
+
+-- the whole: what decides the answers 1, 2, 4, 5, and the number of instructions
+unfoldable pub setScan : ℕ → Option RuleSet → Scan
+setScan size none = notThere
+setScan size (some rs) =
+    record {
+      ok = true;
+      past = size;
+      count = filterLength (rs .entries);
+      filled = rulesFilled rs;
+      indexed = indicesTaken rs;
+      ascending = ascending (rs .entries);
+    }
+
+-- the whole, from the scan of its n entries
+unfoldable pub setFrom : ℕ → ℕ → Bool → Scan → Scan
+setFrom size n head c =
+    cond (leb size 1048576) (cond (leb 16 size) (cond head (cond (c .ok) (cond (eqb (c .past) size)
+    (record { ok = true; past = size; count = filterOr n (c .count); filled = c .filled; indexed = c .indexed; ascending = c .ascending })
+    notThere) notThere) notThere) notThere) notThere

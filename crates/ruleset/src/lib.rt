@@ -1,0 +1,333 @@
+// Rule sets as bytes, read in one walk: whether they are of the format, whether something in them is refused, and how many instructions
+// their filter has. Nothing in the bytes is trusted: whatever a count says, the walk ends where the bytes do.
+ghost use mathlib.Core.Path.{_≡_};
+ghost use mathlib.Core.Bool.{true, _&&_};
+ghost use Prim.Native.Nat.{_+_, _≤_, _<_};
+ghost use lib.ListN.{length};
+ghost use Rattle.definitions.specs.Word.{numberAt};
+ghost use Rattle.definitions.specs.RuleSet.{isAction};
+ghost use Rattle.definitions.specs.Format.{times, conditionAt, ruleAt, entryAt, read};
+ghost use Rattle.ruleset.specs.Scan.{isThere, widthKnown, architectureKnown, notThere, Scanned, conditionsScan, ruleScan, rulesScan, bodyOr, entryScan, entriesScan, headTaken, filterOr, setScan};
+use condition::condition_here;
+
+// What a walk over a part found: whether it is of the format, the place behind it, how many instructions it has, whether all its rules
+// have conditions, all its indices are at most 5, and all its numbers ascend.
+pub struct Scan {
+    pub ok: bool,
+    pub past: usize,
+    pub count: usize,
+    pub filled: bool,
+    pub indexed: bool,
+    pub ascending: bool,
+}
+
+fn not_there() -> Scan
+    ensures { λ r. ⌜ r ≡ notThere ⌝ }
+{
+    Scan {
+        ok: false,
+        past: 0,
+        count: 0,
+        filled: false,
+        indexed: false,
+        ascending: false,
+    }
+}
+
+fn both(a: bool, b: bool) -> bool
+    ensures { λ r. ⌜ r ≡ (a && b) ⌝ }
+{
+    if a {
+        return b;
+    }
+    false
+}
+
+fn width_known(w: u8) -> bool
+    ensures { λ r. ⌜ r ≡ widthKnown w ⌝ }
+{
+    if w == 4 {
+        return true;
+    }
+    w == 8
+}
+
+fn architecture_known(a: u32) -> bool
+    ensures { λ r. ⌜ r ≡ architectureKnown a ⌝ }
+{
+    if a == 1 {
+        return true;
+    }
+    a == 2
+}
+
+// Whether a condition of the format stands at a place.
+fn condition_there(s: &[u8], at: usize) -> bool
+    requires { ⌜ (at ≤ length (now s)) × (length (now s) ≤ 1048576) ⌝ }
+    ensures { λ r. ⌜ r ≡ isThere (conditionAt (now (s .entry)) at) ⌝ }
+{
+    if s.len() < at + 24 {
+        return false;
+    }
+    // index, width and operator, and five bytes that are zero
+    let first = bpf::u64_at(s, at) / 16777216;
+    if first != 0 {
+        return false;
+    }
+    if !width_known(s[at + 1]) {
+        return false;
+    }
+    let operator = s[at + 2];
+    if 6 < operator {
+        return false;
+    }
+    if operator == 5 {
+        return true;
+    }
+    let mask = bpf::u64_at(s, at + 16);
+    mask == 0
+}
+
+fn scan_conditions(s: &[u8], n: u32, from: usize) -> Scan
+    requires { ⌜ (from ≤ length (now s)) × (length (now s) ≤ 1048576) ⌝ }
+    ensures { λ r. ⌜ Scanned (conditionsScan 0 1 true (times (conditionAt (now (s .entry))) n from)) from (length (now (s .entry))) r ⌝ }
+{
+    let mut count: usize = 0;
+    let mut distance: u8 = 1;
+    let mut indexed = true;
+    let mut at = from;
+    let mut left = n;
+    while left != 0 {
+        if !condition_there(s, at) {
+            return not_there();
+        }
+        let q = condition_here(s, at);
+        let step = rule::step_length(q, distance);
+        count = count + step.count;
+        distance = step.distance;
+        indexed = both(indexed, q.index <= 5);
+        at = at + 24;
+        left = left - 1;
+    }
+    Scan {
+        ok: true,
+        past: at,
+        count: count,
+        filled: true,
+        indexed: indexed,
+        ascending: true,
+    }
+}
+
+fn scan_rule(s: &[u8], at: usize) -> Scan
+    requires { ⌜ (at ≤ length (now s)) × (length (now s) ≤ 1048576) ⌝ }
+    ensures { λ r. ⌜ Scanned (ruleScan (ruleAt (now (s .entry)) at)) at (length (now (s .entry))) r ⌝ }
+{
+    if s.len() < at + 4 {
+        return not_there();
+    }
+    let n = bpf::u32_at(s, at);
+    let conditions = scan_conditions(s, n, at + 4);
+    if !conditions.ok {
+        return not_there();
+    }
+    // two jumps in front of the conditions, and the return behind them
+    Scan {
+        ok: true,
+        past: conditions.past,
+        count: conditions.count + 3,
+        filled: n != 0,
+        indexed: conditions.indexed,
+        ascending: true,
+    }
+}
+
+fn scan_rules(s: &[u8], n: u32, from: usize) -> Scan
+    requires { ⌜ (from ≤ length (now s)) × (length (now s) ≤ 1048576) ⌝ }
+    ensures { λ r. ⌜ Scanned (rulesScan 0 true true (times (ruleAt (now (s .entry))) n from)) from (length (now (s .entry))) r ⌝ }
+{
+    let mut count: usize = 0;
+    let mut filled = true;
+    let mut indexed = true;
+    let mut at = from;
+    let mut left = n;
+    while left != 0 {
+        let rule = scan_rule(s, at);
+        if !rule.ok {
+            return not_there();
+        }
+        count = count + rule.count;
+        filled = both(filled, rule.filled);
+        indexed = both(indexed, rule.indexed);
+        at = rule.past;
+        left = left - 1;
+    }
+    Scan {
+        ok: true,
+        past: at,
+        count: count,
+        filled: filled,
+        indexed: indexed,
+        ascending: true,
+    }
+}
+
+// An entry without rules has three instructions where the others have their rules.
+fn body_length(n: u32, rules: usize) -> usize
+    ensures { λ r. ⌜ r ≡ bodyOr n rules ⌝ }
+{
+    if n == 0 {
+        return 3;
+    }
+    rules
+}
+
+fn scan_entry(s: &[u8], at: usize) -> Scan
+    requires { ⌜ (at ≤ length (now s)) × (length (now s) ≤ 1048576) ⌝ }
+    ensures { λ r. ⌜ Scanned (entryScan (entryAt (now (s .entry)) at)) at (length (now (s .entry))) r ⌝ }
+{
+    if s.len() < at + 8 {
+        return not_there();
+    }
+    let n = bpf::u32_at(s, at + 4);
+    let rules = scan_rules(s, n, at + 8);
+    if !rules.ok {
+        return not_there();
+    }
+    Scan {
+        ok: true,
+        past: rules.past,
+        count: body_length(n, rules.count) + 2,
+        filled: rules.filled,
+        indexed: rules.indexed,
+        ascending: true,
+    }
+}
+
+// The call number as a number that has room for one more.
+fn number_at(s: &[u8], at: usize) -> u64
+    requires { ⌜ at + 4 ≤ length (now s) ⌝ }
+    ensures { λ r. ⌜ (r ≡ numberAt 4 (now (s .entry)) at) × (r < 4294967296) ⌝ }
+{
+    let n = bpf::u32_at(s, at);
+    n as u64
+}
+
+fn scan_entries(s: &[u8], n: u32, from: usize) -> Scan
+    requires { ⌜ (from ≤ length (now s)) × (length (now s) ≤ 1048576) ⌝ }
+    ensures { λ r. ⌜ Scanned (entriesScan 0 true true true 0 (times (entryAt (now (s .entry))) n from)) from (length (now (s .entry))) r ⌝ }
+{
+    let mut count: usize = 0;
+    let mut filled = true;
+    let mut indexed = true;
+    let mut ascending = true;
+    // the least number that may come next
+    let mut least: u64 = 0;
+    let mut at = from;
+    let mut left = n;
+    while left != 0 {
+        let entry = scan_entry(s, at);
+        if !entry.ok {
+            return not_there();
+        }
+        let number = number_at(s, at);
+        count = count + entry.count;
+        filled = both(filled, entry.filled);
+        indexed = both(indexed, entry.indexed);
+        ascending = both(ascending, least <= number);
+        least = number + 1;
+        at = entry.past;
+        left = left - 1;
+    }
+    Scan {
+        ok: true,
+        past: at,
+        count: count,
+        filled: filled,
+        indexed: indexed,
+        ascending: ascending,
+    }
+}
+
+// Whether a word is an action that is known.
+fn is_action(w: u32) -> bool
+    ensures { λ r. ⌜ r ≡ isAction w ⌝ }
+{
+    if w == 0x80000000 {
+        return true;
+    }
+    if w == 0x00000000 {
+        return true;
+    }
+    if w == 0x00030000 {
+        return true;
+    }
+    if w == 0x7ffc0000 {
+        return true;
+    }
+    if w == 0x7fff0000 {
+        return true;
+    }
+    let kind = w / 65536;
+    if kind == 0x0005 {
+        return true;
+    }
+    kind == 0x7ff0
+}
+
+// Whether the head's architecture and actions are known.
+fn head_there(s: &[u8]) -> bool
+    requires { ⌜ 16 ≤ length (now s) ⌝ }
+    ensures { λ r. ⌜ r ≡ headTaken (now (s .entry)) ⌝ }
+{
+    if !architecture_known(bpf::u32_at(s, 0)) {
+        return false;
+    }
+    if !is_action(bpf::u32_at(s, 4)) {
+        return false;
+    }
+    is_action(bpf::u32_at(s, 8))
+}
+
+// The four instructions of a filter for no numbers, or the five around those for the entries.
+fn filter_length(n: u32, entries: usize) -> usize
+    requires { ⌜ entries ≤ 1048576 ⌝ }
+    ensures { λ r. ⌜ r ≡ filterOr n entries ⌝ }
+{
+    if n == 0 {
+        return 4;
+    }
+    entries + 5
+}
+
+// The whole walk.
+pub fn scan_set(s: &[u8]) -> Scan
+    ensures { λ r. ⌜ (r ≡ setScan (length (now (s .entry))) (read (now (s .entry)))) × (r .count ≤ 1048581) ⌝ }
+{
+    let size = s.len();
+    if 1048576 < size {
+        return not_there();
+    }
+    if size < 16 {
+        return not_there();
+    }
+    if !head_there(s) {
+        return not_there();
+    }
+    let n = bpf::u32_at(s, 12);
+    let entries = scan_entries(s, n, 16);
+    if !entries.ok {
+        return not_there();
+    }
+    if entries.past != size {
+        return not_there();
+    }
+    Scan {
+        ok: true,
+        past: size,
+        count: filter_length(n, entries.count),
+        filled: entries.filled,
+        indexed: entries.indexed,
+        ascending: entries.ascending,
+    }
+}
