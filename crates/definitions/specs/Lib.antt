@@ -5,3 +5,4 @@ pub mod RuleSet
 pub mod Emitted
 pub mod Format
 pub mod Answer
+pub mod Compiled

@@ -11,4 +11,6 @@ pub mod Words
 pub mod Bytes
 pub mod RoundTrip
 pub mod Grows
+pub mod Answers
+pub mod Compiled
 pub mod Lengths

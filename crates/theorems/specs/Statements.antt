@@ -7,6 +7,7 @@ use mathlib.Core.List.{List}
 use mathlib.Core.Option.{some}
 use lib.ListN.{length}
 use Rattle.definitions.specs.declared.Instruction.{Instruction}
+use Rattle.definitions.specs.declared.Answer.{Answer}
 use Rattle.definitions.specs.Word.{AreBytes}
 use Rattle.definitions.specs.Machine.{filterBytes, filterOf, Call, returns, start, run, runs, visits, steps, Climbs}
 use Rattle.definitions.specs.Kernel.{accepts, acceptsBytes}
@@ -14,6 +15,7 @@ use Rattle.definitions.specs.RuleSet.{RuleSet, meaning, Grown}
 use Rattle.definitions.specs.Emitted.{emitted}
 use Rattle.definitions.specs.Format.{InRange, encode, read}
 use Rattle.definitions.specs.Answer.{indicesTaken}
+use Rattle.definitions.specs.Compiled.{FormOf, filterIn, Compiled}
 use Rattle.theorems.specs.Length.{filterLength}
 
 -- ---- of the emitted filter
@@ -71,3 +73,12 @@ OneForm = (a b : List ℕ) → AreBytes a → AreBytes b → (rs : RuleSet) → 
 -- with one more number listed, or one more rule in an entry that has rules, what matched still matches
 abbrev pub Grows : Type 0
 Grows = (old new : RuleSet) → Grown old new → (c : Call) → meaning old c ≡ old .onMatch → meaning new c ≡ new .onMatch
+
+-- the same of bytes: of what two compilations returned and wrote, whatever stood in their buffers
+abbrev pub GrowsBytes : Type 0
+GrowsBytes =
+    (old new : RuleSet) (old-set new-set old-before old-after new-before new-after : List ℕ) (r s : Answer)
+    → FormOf old old-set → FormOf new new-set
+    → Compiled old-set old-before old-after r → Compiled new-set new-before new-after s → r .code ≡ 0 → s .code ≡ 0
+    → Grown old new → (c : Call)
+    → runs (filterOf (filterIn r old-after)) c ≡ returns (old .onMatch) → runs (filterOf (filterIn s new-after)) c ≡ returns (new .onMatch)

@@ -1,0 +1,64 @@
+-- What an answer says of the rule set: 0 is given only to a set of the format in which nothing is refused and whose filter is short
+-- enough for the limit and for the buffer.
+use mathlib.Core.Path.{_≡_, refl, ap, sym, _∙_}
+use mathlib.Core.Bool.{Bool, true, false, cond, not}
+use mathlib.Core.List.{List}
+use mathlib.Core.Option.{Option, none, some}
+use Prim.Native.Nat.{ℕ, _*_, _≤_, _<_}
+use native.Mathlib.Omega.{arith}
+use lib.Dec.{eqb, leb, ltb}
+use lib.ListN.{length}
+use borrow.Author.Tests.{leb-false, ltb-false}
+use Rattle.definitions.specs.declared.Answer.{Answer}
+use Rattle.definitions.specs.RuleSet.{RuleSet}
+use Rattle.definitions.specs.Emitted.{emitted}
+use Rattle.definitions.specs.Format.{read}
+use Rattle.definitions.specs.Answer.{ascending, rulesFilled, indicesTaken, tooMany, answer, answerWith, answerRead, answerOf}
+
+pub record Compiles (set : List ℕ) (room : ℕ) (r : Answer) (rs : RuleSet) : Type 0 where
+  pub from : read set ≡ some rs
+  pub indices : indicesTaken rs ≡ true
+  pub short : length (emitted rs) < tooMany
+  pub fits : 8 * length (emitted rs) ≤ room
+  pub said : r ≡ answer 0 (length (emitted rs))
+
+-- a test that led to another answer than 0
+past : (t : Bool) (k n : ℕ) (rest : Answer) → (k ≡ 0 → ⊥) → (cond t (answer k n) rest) .code ≡ 0 → (t ≡ false) × (rest .code ≡ 0)
+past true k n rest h e = absurd (h e)
+past false k n rest h e = (refl, e)
+
+kept-true : (t : Bool) → not t ≡ false → t ≡ true
+kept-true true e = refl
+kept-true false e = sym e
+
+record Answered (n : ℕ) (rs : RuleSet) (room : ℕ) : Type 0 where
+  indices : indicesTaken rs ≡ true
+  short : n < tooMany
+  fits : 8 * n ≤ room
+  said : answerWith n rs room ≡ answer 0 n
+
+answered : (n : ℕ) (rs : RuleSet) (room : ℕ) → answerWith n rs room .code ≡ 0 → Answered n rs room
+unfolding answerWith
+answered n rs room e =
+    let w2 = past (not (ascending (rs .entries))) 2 0 _ (λ q. omega arith) e in
+    let w3 = past (eqb (rs .mismatch) (rs .onMatch)) 3 0 _ (λ q. omega arith) (w2 .1) in
+    let w4 = past (not (rulesFilled rs)) 4 0 _ (λ q. omega arith) (w3 .1) in
+    let w5 = past (not (indicesTaken rs)) 5 0 _ (λ q. omega arith) (w4 .1) in
+    let w6 = past (leb tooMany n) 6 n _ (λ q. omega arith) (w5 .1) in
+    let w7 = past (ltb room (8 * n)) 7 n (answer 0 n) (λ q. omega arith) (w6 .1) in
+    record {
+      indices = kept-true (indicesTaken rs) (w5 .0);
+      short = leb-false tooMany n (w6 .0);
+      fits = ltb-false room (8 * n) (w7 .0);
+      said = rw (w2 .0, w3 .0, w4 .0, w5 .0, w6 .0, w7 .0);
+    }
+
+by-read : (set : List ℕ) (room : ℕ) (r : Answer) (x : Option RuleSet) → read set ≡ x → r ≡ answerRead x room → r .code ≡ 0 → (rs : RuleSet) × Compiles set room r rs
+by-read set room r none e p z = absurd (let q = ap (λ (a : Answer). a .code) p in omega arith)
+by-read set room r (some rs) e p z =
+    let a = answered (length (emitted rs)) rs room (sym (ap (λ (a : Answer). a .code) p) ∙ z) in
+    (rs, record { from = e; indices = a .indices; short = a .short; fits = a .fits; said = p ∙ a .said })
+
+pub compiles : (set : List ℕ) (room : ℕ) (r : Answer) → r ≡ answerOf set room → r .code ≡ 0 → (rs : RuleSet) × Compiles set room r rs
+unfolding answerOf
+compiles set room r p z = by-read set room r (read set) refl p z
