@@ -6,6 +6,7 @@ ghost use lib.Dec.{eqb};
 ghost use lib.ListN.{length};
 ghost use Rattle.definitions.specs.Word.{numberAt};
 ghost use Rattle.definitions.specs.Answer as answers;
+ghost use Rattle.definitions.specs.Compiled.{Compiled};
 use definitions::Answer;
 
 fn give(code: u32, count: u32) -> Answer
@@ -56,4 +57,17 @@ fn verdict(set: &[u8], room: usize) -> Answer
         return give(7, count);
     }
     give(0, count)
+}
+
+// Compiles a rule set into a lent buffer.
+#[no_mangle]
+pub extern "C" fn callfilter_compile(set: &[u8], out: &mut [u8]) -> Answer
+    ensures { λ r. ⌜ Compiled (now (set .entry)) (now (out .entry)) (now (out .exit)) r ⌝ }
+{
+    let r = verdict(set, out.len());
+    if r.code != 0 {
+        return r;
+    }
+    filter::put_filter(out, set);
+    r
 }

@@ -143,7 +143,7 @@ pub past-none : (s : List ℕ) (n at : ℕ) → n ≡ 0 → rulesPast s n at ≡
 unfolding rulesPast
 past-none s n at e = rw e
 
-past-further : (s : List ℕ) (n at : ℕ) → at ≤ rulesPast s n at
+pub past-further : (s : List ℕ) (n at : ℕ) → at ≤ rulesPast s n at
 unfolding rulesPast
 past-further s zero at = omega arith
 past-further s (suc n) at = omega (arith, past-further s n (at + 4 + 24 * numberAt 4 s at))

@@ -1,0 +1,112 @@
+-- Laws of a filter's instructions and of the places that its entries are read from: one turn of the loop, its end, and how the parts
+-- make up the whole. Assumes nothing.
+use mathlib.Core.Path.{_≡_, refl}
+use mathlib.Core.List.{List, [], _∷_, _++_}
+use Prim.Native.Nat.{ℕ, zero, suc, _+_, _-_, _*_, _≤_}
+use native.Mathlib.Omega.{arith}
+use lib.ListN.{length, length-append}
+use Rattle.definitions.specs.declared.Instruction.{Instruction}
+use Rattle.definitions.specs.Word.{numberAt}
+use Rattle.definitions.specs.Machine.{instructionBytes, filterBytes}
+use Rattle.definitions.specs.RuleSet.{architectureWord, killProcess}
+use Rattle.definitions.specs.Emitted.{load, jumpBy, ifEqual, return, rulesCode, bodyCode, entryCode, entriesCode, numbersCode, emitted}
+use Rattle.bpf.specs.Place.{place}
+use Rattle.bpf.proofs.Laws.{put-first, put-next, puts-append}
+use Rattle.rule.specs.At.{rulesHere, rulesPast}
+use Rattle.rule.proofs.Laws.{past-further}
+use Rattle.filter.specs.At.{namedArchitecture, entryHere, entryPast, entriesHere, entriesPast, setHere}
+
+-- ---- an instruction, a run of them, and an instruction
+
+pub put-around : (l : List ℕ) (at end : ℕ) (i : Instruction) (is : List Instruction) (j : Instruction)
+    → end ≡ at + 8 + 8 * length is → end + 8 ≤ length l
+    → place (place (place l at (instructionBytes i)) (at + 8) (filterBytes is)) end (instructionBytes j) ≡ place l at (filterBytes (i ∷ (is ++ (j ∷ []))))
+put-around l at end i is j e h =
+    rw (put-first l at i, puts-append l at (at + 8) (i ∷ []) is (omega arith) (omega arith))
+    (put-next l at end (i ∷ is) j (omega arith) h)
+
+-- ---- the rules of an entry
+
+pub body-always : (m : ℕ) → bodyCode m [] ≡ jumpBy 1 ∷ jumpBy 2 ∷ return m ∷ []
+unfolding bodyCode
+body-always m = refl
+
+pub body-none : (s : List ℕ) (n at m : ℕ) → n ≡ 0 → bodyCode m (rulesHere s n at) ≡ bodyCode m []
+unfolding rulesHere
+body-none s n at m e = rw e
+
+pub body-some : (s : List ℕ) (n at m : ℕ) → (n ≡ 0 → ⊥) → bodyCode m (rulesHere s n at) ≡ rulesCode m (rulesHere s n at)
+unfolding bodyCode rulesHere
+body-some s zero at m h = absurd (h refl)
+body-some s (suc n) at m h = refl
+
+-- ---- an entry, from the bytes
+
+pub entry-is : (s : List ℕ) (at m d : ℕ)
+    → entryCode m d (entryHere s at) ≡ ifEqual (numberAt 4 s at) 0 1 ∷ (bodyCode m (rulesHere s (numberAt 4 s (at + 4)) (at + 8)) ++ (return d ∷ []))
+unfolding entryCode entryHere
+entry-is s at m d = refl
+
+pub entry-length : (s : List ℕ) (at m d : ℕ)
+    → length (entryCode m d (entryHere s at)) ≡ 2 + length (bodyCode m (rulesHere s (numberAt 4 s (at + 4)) (at + 8)))
+entry-length s at m d = rw (entry-is s at m d) (simp length-append (omega arith))
+
+pub entry-past : (s : List ℕ) (at : ℕ) → entryPast s at ≡ rulesPast s (numberAt 4 s (at + 4)) (at + 8)
+unfolding entryPast
+entry-past s at = refl
+
+pub entry-further : (s : List ℕ) (at : ℕ) → at + 8 ≤ entryPast s at
+entry-further s at = rw (entry-past s at) (past-further s (numberAt 4 s (at + 4)) (at + 8))
+
+-- ---- entries, from the bytes
+
+pub entries-more : (s : List ℕ) (n at m d : ℕ) → (n ≡ 0 → ⊥)
+    → entriesCode m d (entriesHere s n at) ≡ entryCode m d (entryHere s at) ++ entriesCode m d (entriesHere s (n - 1) (entryPast s at))
+unfolding entriesCode entriesHere
+entries-more s zero at m d h = absurd (h refl)
+entries-more s (suc n) at m d h = let e : suc n - 1 ≡ n = omega arith in rw e
+
+pub entries-none : (s : List ℕ) (n at m d : ℕ) → n ≡ 0 → entriesCode m d (entriesHere s n at) ≡ []
+unfolding entriesCode entriesHere
+entries-none s n at m d e = rw e
+
+pub entries-past-more : (s : List ℕ) (n at : ℕ) → (n ≡ 0 → ⊥) → entriesPast s n at ≡ entriesPast s (n - 1) (entryPast s at)
+unfolding entriesPast
+entries-past-more s zero at h = absurd (h refl)
+entries-past-more s (suc n) at h = let e : suc n - 1 ≡ n = omega arith in rw e
+
+entries-further : (s : List ℕ) (n at : ℕ) → at ≤ entriesPast s n at
+unfolding entriesPast
+entries-further s zero at = omega arith
+entries-further s (suc n) at = omega (arith, entry-further s at, entries-further s n (entryPast s at))
+
+-- where all that is left ends in the bytes, the next entry does
+pub entry-inside : (s : List ℕ) (n at past : ℕ) → (n ≡ 0 → ⊥) → entriesPast s n at ≡ past → past ≤ length s → entryPast s at ≤ length s
+entry-inside s n at past h e i = omega (arith, entries-past-more s n at h, entries-further s (n - 1) (entryPast s at))
+
+-- ---- the whole filter
+
+pub numbers-none : (s : List ℕ) (n at m d : ℕ) → n ≡ 0 → numbersCode m d (entriesHere s n at) ≡ return d ∷ []
+unfolding numbersCode entriesHere
+numbers-none s n at m d e = rw e
+
+pub numbers-some : (s : List ℕ) (n at m d : ℕ) → (n ≡ 0 → ⊥)
+    → numbersCode m d (entriesHere s n at) ≡ load 0 ∷ (entriesCode m d (entriesHere s n at) ++ (return d ∷ []))
+unfolding numbersCode entriesHere
+numbers-some s zero at m d h = absurd (h refl)
+numbers-some s (suc n) at m d h = refl
+
+pub numbers-length : (s : List ℕ) (n at m d : ℕ) → (n ≡ 0 → ⊥)
+    → length (numbersCode m d (entriesHere s n at)) ≡ 2 + length (entriesCode m d (entriesHere s n at))
+numbers-length s n at m d h = rw (numbers-some s n at m d h) (simp length-append (omega arith))
+
+pub filter-is : (s : List ℕ)
+    → emitted (setHere s)
+    ≡ (load 4 ∷ ifEqual (architectureWord (namedArchitecture (numberAt 4 s 0))) 1 0 ∷ return killProcess ∷ [])
+    ++ numbersCode (numberAt 4 s 8) (numberAt 4 s 4) (entriesHere s (numberAt 4 s 12) 16)
+unfolding emitted setHere
+filter-is s = refl
+
+pub filter-length : (s : List ℕ)
+    → length (emitted (setHere s)) ≡ 3 + length (numbersCode (numberAt 4 s 8) (numberAt 4 s 4) (entriesHere s (numberAt 4 s 12) 16))
+filter-length s = rw (filter-is s) (omega arith)

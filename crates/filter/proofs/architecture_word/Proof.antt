@@ -1,0 +1,17 @@
+-- `architecture_word` meets its contract: the definition's test, made in the code. Assumes nothing.
+use borrow.Author.Tests.{eq-eqb, ne-eqb}
+use Rattle.definitions.specs.RuleSet.{architectureWord}
+use Rattle.filter.specs.At.{namedArchitecture}
+use Rattle.filter.proofs.architecture_word.Statement.{statement}
+use Rattle.filter.proofs.architecture_word.Tie as tie
+
+returns : tie.Need-returns
+unfolding architectureWord namedArchitecture
+returns c = rw (eq-eqb _ _ (c .if1 .taken))
+
+returns-2 : tie.Need-returns-2
+unfolding architectureWord namedArchitecture
+returns-2 c = rw (ne-eqb _ _ (c .if1 .left))
+
+pub architecture-word-spec : {M : Type 1} → statement M
+architecture-word-spec = tie.close (tie.spec returns returns-2)

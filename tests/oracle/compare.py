@@ -1,0 +1,222 @@
+#!/usr/bin/env python3
+"""Compares a compiler that speaks the oracle's frames with the real compiler of seccompiler 0.5.0: answers and bytes of systematic and of
+random rule sets, and what the filters return for calls drawn from the values in the rules. It also tries the listed differences on the
+real compiler. The last line is 'N passed, M failed'.
+
+    compare.py --other PROGRAM [--sets N] [--seed N] [--calls N]
+
+Exit status 3: the oracle cannot be built here, and nothing was compared."""
+import argparse
+import pathlib
+import struct
+import subprocess
+import sys
+import time
+
+import build
+
+sys.path.insert(0, str(build.ROOT / "tests" / "vectors"))
+from draw import Draw  # noqa: E402
+from model import ALLOW, EQ, ERRNO, LONGEST_SET, X86_64, encode, length  # noqa: E402
+
+BATCH = 500
+PLENTY = 65536
+SHOWN = 5
+
+
+def heads():
+    """Every short start, every value of every byte of the head, and all pairings of words next to known ones."""
+    plain = encode((X86_64, ERRNO + 1, ALLOW, []))
+    listed = encode((X86_64, ERRNO + 1, ALLOW, [(0, [])]))
+    for given in (plain, listed):
+        for size in range(len(given) + 1):
+            yield given[:size]
+        for more in range(1, 26):
+            yield given + bytes(more)
+            yield given + bytes([1]) * more
+    for byte in range(256):
+        yield bytes([byte])
+        for place in range(16):
+            yield plain[:place] + bytes([byte]) + plain[place + 1:]
+    architectures = (0, 1, 2, 3, 0x101, 0x1000001, 2 ** 32 - 1)
+    words = (0, 1, 0x30000, 0x30001, 0x50000, 0x5ffff, 0x60000, 0x7ff00001, 0x7ffc0000, 0x7ffc8000, 0x7fff0000, 0x80000000, 0x80000001)
+    tails = (bytes(4), bytes(4) + bytes(8), struct.pack("<I", 1) + bytes(8), struct.pack("<I", 2 ** 32 - 1) + bytes(8))
+    for architecture in architectures:
+        for mismatch in words:
+            for match in words:
+                for tail in tails:
+                    yield struct.pack("<III", architecture, mismatch, match) + tail
+
+
+def longest():
+    """Sets at the limit of 1 MiB, which are too large to store as vectors."""
+    def plain(count, mismatch=ERRNO + 1):
+        return encode((X86_64, mismatch, ALLOW, [(number, []) for number in range(count)]))
+
+    whole = plain((LONGEST_SET - 16) // 8)
+    assert len(whole) == LONGEST_SET
+    yield whole
+    yield whole + b"\0"
+    yield whole[:-1]
+    yield plain((LONGEST_SET - 16) // 8 + 1)
+    yield plain((LONGEST_SET - 16) // 8, ALLOW)
+    yield whole[:-8] + whole[-16:-8]
+    # sizes are multiples of 4, so the nearest ones around the limit are 4 bytes away
+    one_rule = [(2 ** 32 - 1, [[(0, 4, EQ, 0, 0)]])]
+    for over in (-4, 4):
+        count = (LONGEST_SET + over - 52) // 8
+        made = encode((X86_64, ERRNO, ALLOW, [(number, []) for number in range(count)] + one_rule))
+        assert len(made) == LONGEST_SET + over
+        yield made
+    empty_rules = (LONGEST_SET - 24) // 4
+    yield encode((X86_64, ERRNO, ALLOW, [(0, [[]] * empty_rules)]))
+    conditions = (LONGEST_SET - 28) // 24
+    condition = (5, 4, EQ, 1, 0)
+    yield encode((X86_64, ERRNO, ALLOW, [(0, [[condition] * conditions])]))
+    yield encode((X86_64, ERRNO, ALLOW, [(0, [[condition] * (conditions - 1) + [(6, 4, EQ, 1, 0)]])]))
+    yield encode((X86_64, ERRNO, ALLOW, [(0, [[condition]] * ((LONGEST_SET - 24) // 28))]))
+
+
+def drawn(seed, count):
+    """Random frames (set, room)."""
+    draw = Draw(seed)
+    for _ in range(count):
+        kind = draw.below(20)
+        if kind < 8:
+            made = draw.small()
+        elif kind < 12:
+            made = draw.long_rules()
+        elif kind < 14:
+            made = draw.many_numbers()
+        elif kind < 16:
+            made = draw.exact(draw.between(4090, 4101))
+        elif kind < 17:
+            made = draw.exact(draw.between(100, 4090))
+        else:
+            made = None
+        if made is None:
+            source = draw.of((draw.small, draw.small, draw.small, draw.long_rules, draw.many_numbers))()
+            if draw.chance(3):
+                yield encode(draw.refused(source)), draw.of((PLENTY, 0))
+            else:
+                yield draw.damaged(encode(source)), PLENTY
+        else:
+            size = 8 * length(made)
+            yield encode(made), draw.of((PLENTY,) * 8 + (size, size + 5, max(0, size - 1), draw.below(size), 0))
+
+
+class Tally:
+    def __init__(self):
+        self.passed = self.calls = self.matched = 0
+        self.failures = []
+        self.codes = {}
+
+
+def compare(frames, oracle, other, judge, calls, seed, tally):
+    expected, trouble = build.ask(oracle, frames)
+    if trouble:
+        raise build.Broken(f"the oracle {trouble}")
+    given, trouble = build.ask(other, frames)
+    if trouble:
+        print(f"the other program {trouble}")
+    given += [None] * (len(frames) - len(given))
+
+    # where both wrote the same there is one filter to run, else two
+    to_run = {}
+    for place, answers in enumerate(zip(expected, given)):
+        for answer in answers:
+            if answer and answer[0] == 0 and expected[place][0] == 0:
+                to_run[place, answer[2]] = None
+    results, told = build.judge(judge, [(frames[place][0], code) for place, code in to_run], calls, seed)
+    verdicts = {}
+    for (place, _), (wrong, matched, refused) in zip(to_run, results):
+        tally.calls += calls
+        tally.matched += matched
+        if wrong or refused:
+            verdicts[place] = f"{wrong} of {calls} calls end wrong" + (", the kernel refuses it" if refused else "")
+    if told:
+        print("\n".join(told[:SHOWN]))
+
+    for place, frame in enumerate(frames):
+        wanted, got = expected[place], given[place]
+        tally.codes[wanted[0]] = tally.codes.get(wanted[0], 0) + 1
+        if wanted == got and place not in verdicts:
+            tally.passed += 1
+            continue
+        if got is None:
+            reason = f"no answer, expected {wanted[:2]}"
+        elif wanted[:2] != got[:2]:
+            reason = f"answered {got[:2]}, expected {wanted[:2]}"
+        elif wanted != got:
+            at = next(at for at, (one, two) in enumerate(zip(wanted[2], got[2])) if one != two)
+            reason = f"filters differ, first in instruction {at // 8}"
+        else:
+            reason = "filters agree"
+        tally.failures.append((frame, reason + (f"; {verdicts[place]}" if place in verdicts else "")))
+
+
+def differences(oracle, tally):
+    lines = subprocess.run([str(oracle), "differences"], capture_output=True, text=True).stdout.splitlines()[:-1]
+    for line in lines or ["FAILED nothing tried"]:
+        if line.startswith("ok "):
+            tally.passed += 1
+        else:
+            tally.failures.append(((b"", 0), f"difference not seen: {line}"))
+    print(f"listed differences: {len(lines)} tried, {len(tally.failures)} failures")
+
+
+def show(failures):
+    """The smallest ones, since they are read first; whole, as files, since they may be long."""
+    for place, ((given, room), reason) in enumerate(sorted(failures, key=lambda failure: len(failure[0][0]))[:SHOWN]):
+        path = build.TARGET / f"failed-{place}.set"
+        path.write_bytes(given)
+        print(f"FAILED {reason}: set of {len(given)} bytes, room {room}, in {path.relative_to(build.ROOT)}: {given[:120].hex()}")
+
+
+def main():
+    parser = argparse.ArgumentParser()
+    parser.add_argument("--other", required=True, type=pathlib.Path, help="the program to compare")
+    parser.add_argument("--oracle", type=pathlib.Path, help="a program in the oracle's place, to try the judge alone")
+    parser.add_argument("--sets", type=int, default=10000, help="how many random sets")
+    parser.add_argument("--seed", type=int, default=20240501)
+    parser.add_argument("--calls", type=int, default=40, help="calls to run through each filter")
+    options = parser.parse_args()
+    try:
+        oracle, judge = options.oracle or build.build_oracle(), build.build_judge()
+    except build.Missing as missing:
+        print(f"nothing compared: {missing}")
+        print("0 passed, 0 failed")
+        return build.MISSING
+
+    print(f"seed {options.seed}, {options.sets} random sets")
+    tally = Tally()
+    start = time.monotonic()
+
+    def part(name, frames):
+        before = tally.passed + len(tally.failures)
+        batch = []
+        for frame in frames:
+            batch.append(frame)
+            if len(batch) == BATCH:
+                compare(batch, oracle, options.other.resolve(), judge, options.calls, options.seed, tally)
+                batch = []
+        if batch:
+            compare(batch, oracle, options.other.resolve(), judge, options.calls, options.seed, tally)
+        count = tally.passed + len(tally.failures) - before
+        print(f"{name}: {count} sets, {len(tally.failures)} failures so far, {time.monotonic() - start:.1f} s")
+
+    if not options.oracle:
+        differences(oracle, tally)
+    part("heads", ((given, PLENTY) for given in heads()))
+    part("at 1 MiB", ((given, PLENTY) for given in longest()))
+    part("random", drawn(options.seed, options.sets))
+
+    codes = ", ".join(f"{code}: {tally.codes[code]}" for code in sorted(tally.codes))
+    print(f"answers ({codes}); {tally.calls} calls run, {tally.matched} of them matching")
+    show(tally.failures)
+    print(f"{tally.passed} passed, {len(tally.failures)} failed")
+    return 1 if tally.failures else 0
+
+
+if __name__ == "__main__":
+    sys.exit(main())

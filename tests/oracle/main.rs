@@ -1,0 +1,218 @@
+// The oracle: answers rule sets given as bytes with the real compiler of seccompiler 0.5.0, and checks on the way that the compiler's own
+// refusals are the answers given. It exists to be compared with; nothing of it is part of the product.
+//
+// Standard input: frames of (set length, room, set). Standard output, for each: (code, count) and, if the code is 0, the filter.
+// All numbers have 4 bytes, lowest byte first. With the argument `differences` it instead tries the listed differences on the real code.
+
+mod backend;
+mod format;
+
+use std::collections::BTreeMap;
+use std::io::{self, BufReader, BufWriter, Write};
+
+use backend::{
+    BpfProgram, Error, SeccompAction, SeccompCmpArgLen, SeccompCmpOp, SeccompCondition, SeccompFilter, SeccompRule, TargetArch,
+};
+use format::{next_bytes, next_word, read_set, RuleSet};
+
+type Rules = BTreeMap<i64, Vec<SeccompRule>>;
+
+// how often the real code was asked for each of its opinions, and how often it refused
+#[derive(Default)]
+struct Opinions {
+    asked: [u64; 4],
+    refused: [u64; 4],
+}
+
+const NAMES: [&str; 4] = ["equal actions", "empty rule", "index", "length"];
+const ACTIONS: usize = 0;
+const EMPTY: usize = 1;
+const INDEX: usize = 2;
+const LENGTH: usize = 3;
+
+impl Opinions {
+    // a disagreement means that this program or the description is wrong, and then no answer of it is worth anything
+    fn ask(&mut self, which: usize, expected: bool, refused: bool, set: &[u8]) {
+        self.asked[which] += 1;
+        self.refused[which] += u64::from(refused);
+        if expected != refused {
+            let start = &set[..set.len().min(200)];
+            eprintln!("oracle: seccompiler disagrees on '{}' (expected refusal: {expected})", NAMES[which]);
+            eprintln!("oracle: for a set of {} bytes {start:02x?}", set.len());
+            std::process::exit(4);
+        }
+    }
+
+    fn report(&self) {
+        for (which, name) in NAMES.iter().enumerate() {
+            eprintln!("oracle: {name}: asked {}, refused {}, disagreements 0", self.asked[which], self.refused[which]);
+        }
+    }
+}
+
+fn action(word: u32) -> SeccompAction {
+    let made = match word >> 16 {
+        0x8000 => SeccompAction::KillProcess,
+        0x0000 => SeccompAction::KillThread,
+        0x0003 => SeccompAction::Trap,
+        0x0005 => SeccompAction::Errno(word & 0xffff),
+        0x7ff0 => SeccompAction::Trace(word & 0xffff),
+        0x7ffc => SeccompAction::Log,
+        0x7fff => SeccompAction::Allow,
+        _ => unreachable!("the reader took an unknown action"),
+    };
+    assert_eq!(u32::from(made.clone()), word, "seccompiler returns another word for this action");
+    made
+}
+
+fn architecture(number: u32) -> TargetArch {
+    match number {
+        1 => TargetArch::x86_64,
+        2 => TargetArch::aarch64,
+        _ => unreachable!("the reader took an unknown architecture"),
+    }
+}
+
+fn condition(given: &format::Condition) -> Result<SeccompCondition, Error> {
+    let width = if given.wide { SeccompCmpArgLen::Qword } else { SeccompCmpArgLen::Dword };
+    let operator = match given.operator {
+        format::EQ => SeccompCmpOp::Eq,
+        format::GE => SeccompCmpOp::Ge,
+        format::GT => SeccompCmpOp::Gt,
+        format::LE => SeccompCmpOp::Le,
+        format::LT => SeccompCmpOp::Lt,
+        format::MASKED_EQ => SeccompCmpOp::MaskedEq(given.mask),
+        format::NE => SeccompCmpOp::Ne,
+        _ => unreachable!("the reader took an unknown operator"),
+    };
+    SeccompCondition::new(given.index, width, operator, given.value)
+}
+
+fn filter_of(set: &RuleSet, rules: Rules) -> Result<SeccompFilter, Error> {
+    SeccompFilter::new(rules, action(set.mismatch), action(set.on_match), architecture(set.architecture))
+}
+
+fn answer(bytes: &[u8], room: u32, opinions: &mut Opinions) -> (u32, u32, BpfProgram) {
+    let Some(set) = read_set(bytes) else { return (1, 0, vec![]) };
+
+    let ascending = set.entries.windows(2).all(|pair| pair[0].number < pair[1].number);
+
+    // asked with no rules, since the rules may not be makeable
+    let same = set.mismatch == set.on_match;
+    opinions.ask(ACTIONS, same, filter_of(&set, Rules::new()) == Err(Error::IdenticalActions), bytes);
+
+    let mut empty = false;
+    let mut beyond = false;
+    let mut rules = Rules::new();
+    for entry in &set.entries {
+        let mut made = vec![];
+        for rule in &entry.rules {
+            let mut conditions = vec![];
+            for given in rule {
+                let result = condition(given);
+                opinions.ask(INDEX, given.index > 5, result == Err(Error::InvalidArgumentNumber), bytes);
+                beyond |= given.index > 5;
+                conditions.extend(result.ok());
+            }
+            if conditions.len() == rule.len() {
+                let result = SeccompRule::new(conditions);
+                opinions.ask(EMPTY, rule.is_empty(), result == Err(Error::EmptyRule), bytes);
+                made.extend(result.ok());
+            }
+            empty |= rule.is_empty();
+        }
+        rules.insert(i64::from(entry.number), made);
+    }
+
+    // which of several refusals counts is ours to say: the real code reports the first that its caller meets
+    let refusal = [(2, !ascending), (3, same), (4, empty), (5, beyond)].into_iter().find(|(_, applies)| *applies);
+    if let Some((code, _)) = refusal {
+        return (code, 0, vec![]);
+    }
+
+    let filter = filter_of(&set, rules).expect("a filter that nothing is wrong with");
+    match BpfProgram::try_from(filter) {
+        Ok(program) => {
+            opinions.ask(LENGTH, program.len() >= 4096, false, bytes);
+            let count = program.len() as u32;
+            if u64::from(room) < 8 * u64::from(count) {
+                (7, count, vec![])
+            } else {
+                (0, count, program)
+            }
+        }
+        Err(Error::FilterTooLarge(count)) => {
+            opinions.ask(LENGTH, count >= 4096, true, bytes);
+            (6, count as u32, vec![])
+        }
+        Err(other) => panic!("an error that compiling does not have: {other:?}"),
+    }
+}
+
+// what the list of differences says of the real code, tried on it
+fn differences() -> bool {
+    let one = |value: u64| {
+        SeccompRule::new(vec![SeccompCondition::new(0, SeccompCmpArgLen::Dword, SeccompCmpOp::Eq, value).unwrap()]).unwrap()
+    };
+    let equal_to = |value: u64| Rules::from([(0, vec![one(value)])]);
+    let filter = |rules: Rules| SeccompFilter::new(rules, SeccompAction::Errno(1), SeccompAction::Allow, TargetArch::x86_64);
+    let compile = |rules: Rules| BpfProgram::try_from(filter(rules).unwrap());
+    let listed = |number: i64| Rules::from([(number, vec![])]);
+    let panics = |number: i64| std::panic::catch_unwind(|| compile(listed(number))).is_err();
+    std::panic::set_hook(Box::new(|_| ()));
+
+    let wide = SeccompCondition::new(0, SeccompCmpArgLen::Qword, SeccompCmpOp::MaskedEq(1), 1).unwrap();
+    let mut exactly: Rules = (0..816).map(|number| (number, vec![])).collect();
+    exactly.insert(816, vec![SeccompRule::new(vec![wide]).unwrap()]);
+    let one_less: Rules = (0..818).map(|number| (number, vec![])).collect();
+
+    let errno = |low, high| {
+        SeccompFilter::new(Rules::new(), SeccompAction::Errno(low), SeccompAction::Errno(high), TargetArch::x86_64)
+    };
+    let twice: Rules = [(0, vec![one(1)]), (0, vec![])].into_iter().collect();
+
+    let tries = [
+        ("a call number below 0 panics", panics(-1)),
+        ("a call number of 2^32 panics", panics(1 << 32)),
+        ("a call number of 2^32 - 1 compiles", !panics((1 << 32) - 1)),
+        ("4,096 instructions are refused", compile(exactly) == Err(Error::FilterTooLarge(4096))),
+        ("4,095 instructions are taken", compile(one_less).map(|program| program.len()) == Ok(4095)),
+        ("the upper half of a dword condition's value is ignored", compile(equal_to(1 << 32)) == compile(equal_to(0))),
+        ("errno 0 and errno 65536 pass as different", errno(0, 65536).is_ok()),
+        ("errno 0 and errno 65536 are one word", u32::from(SeccompAction::Errno(0)) == u32::from(SeccompAction::Errno(65536))),
+        ("equal actions are refused", errno(7, 7) == Err(Error::IdenticalActions)),
+        ("a rule without conditions is refused when it is made", SeccompRule::new(vec![]) == Err(Error::EmptyRule)),
+        ("a number listed twice keeps the last", compile(twice) == compile(listed(0))),
+        ("an unknown architecture name is an error", TargetArch::try_from("mips") == Err(Error::InvalidTargetArch("mips".into()))),
+        ("architecture names are compared without case", TargetArch::try_from("AArch64") == Ok(TargetArch::aarch64)),
+    ];
+    for (name, held) in &tries {
+        println!("{} {name}", if *held { "ok    " } else { "FAILED" });
+    }
+    let passed = tries.iter().filter(|(_, held)| *held).count();
+    println!("{passed} passed, {} failed", tries.len() - passed);
+    passed == tries.len()
+}
+
+fn main() {
+    if std::env::args().nth(1).as_deref() == Some("differences") {
+        std::process::exit(i32::from(!differences()));
+    }
+    let mut input = BufReader::new(io::stdin().lock());
+    let mut output = BufWriter::new(io::stdout().lock());
+    let mut opinions = Opinions::default();
+    while let Some(length) = next_word(&mut input) {
+        let room = next_word(&mut input).expect("a whole frame");
+        let set = next_bytes(&mut input, length);
+        let (code, count, program) = answer(&set, room, &mut opinions);
+        let mut reply = [code.to_le_bytes(), count.to_le_bytes()].concat();
+        for step in program {
+            reply.extend(step.code.to_le_bytes());
+            reply.extend([step.jt, step.jf]);
+            reply.extend(step.k.to_le_bytes());
+        }
+        output.write_all(&reply).expect("standard output");
+    }
+    output.flush().expect("standard output");
+    opinions.report();
+}

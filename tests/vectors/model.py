@@ -1,0 +1,222 @@
+#!/usr/bin/env python3
+"""A model of the compiler in Python, written from the account of what seccompiler 0.5.0 emits and of our byte form: a second
+opinion on every stored vector. Run as a program it speaks the oracle's frames.
+
+A rule set is (architecture, mismatch, match, entries), an entry (number, rules), a rule a list of conditions, and a condition
+(index, width, operator, value, mask)."""
+import struct
+import sys
+
+EQ, GE, GT, LE, LT, MASKED_EQ, NE = range(7)
+OPERATORS = range(7)
+WIDTHS = (4, 8)
+X86_64, AARCH64 = 1, 2
+KILL_PROCESS, KILL_THREAD, TRAP, ERRNO, TRACE, LOG, ALLOW = (
+    0x80000000, 0x00000000, 0x00030000, 0x00050000, 0x7ff00000, 0x7ffc0000, 0x7fff0000)
+ACTIONS = (KILL_PROCESS, KILL_THREAD, TRAP, ERRNO, TRACE, LOG, ALLOW)
+ARCHITECTURE_WORDS = {X86_64: 0xc000003e, AARCH64: 0xc00000b7}
+LONGEST_SET = 2 ** 20
+TOO_MANY = 4096
+FURTHEST = 248
+
+# ---- the byte form
+
+
+def encode_condition(condition):
+    index, width, operator, value, mask = condition
+    return struct.pack("<BBB5xQQ", index, width, operator, value, mask)
+
+
+def encode_rule(rule):
+    return struct.pack("<I", len(rule)) + b"".join(map(encode_condition, rule))
+
+
+def encode_entry(entry):
+    number, rules = entry
+    return struct.pack("<II", number, len(rules)) + b"".join(map(encode_rule, rules))
+
+
+def encode(rule_set):
+    architecture, mismatch, match, entries = rule_set
+    return struct.pack("<IIII", architecture, mismatch, match, len(entries)) + b"".join(map(encode_entry, entries))
+
+
+def is_action(word):
+    return word in ACTIONS or word & 0xffff0000 in (ERRNO, TRACE)
+
+
+def decode(data):
+    """The rule set that bytes stand for, or None."""
+    if not 16 <= len(data) <= LONGEST_SET:
+        return None
+    architecture, mismatch, match, entry_count = struct.unpack_from("<IIII", data, 0)
+    if architecture not in ARCHITECTURE_WORDS or not is_action(mismatch) or not is_action(match):
+        return None
+    at = 16
+    entries = []
+    # a count is believed only as far as there are bytes for what it counts
+    for _ in range(entry_count):
+        if at + 8 > len(data):
+            return None
+        number, rule_count = struct.unpack_from("<II", data, at)
+        at += 8
+        rules = []
+        for _ in range(rule_count):
+            if at + 4 > len(data):
+                return None
+            condition_count, = struct.unpack_from("<I", data, at)
+            at += 4
+            if at + 24 * condition_count > len(data):
+                return None
+            rule = []
+            for _ in range(condition_count):
+                index, width, operator = data[at], data[at + 1], data[at + 2]
+                value, mask = struct.unpack_from("<QQ", data, at + 8)
+                if width not in WIDTHS or operator not in OPERATORS or any(data[at + 3:at + 8]):
+                    return None
+                if mask and operator != MASKED_EQ:
+                    return None
+                rule.append((index, width, operator, value, mask))
+                at += 24
+            rules.append(rule)
+        entries.append((number, rules))
+    return (architecture, mismatch, match, entries) if at == len(data) else None
+
+
+# ---- the filter
+
+LOAD, AND, JUMP, IF_EQUAL, IF_GREATER, IF_AT_LEAST, RETURN = 0x20, 0x54, 0x05, 0x15, 0x25, 0x35, 0x06
+
+
+def size_of(condition):
+    _, width, operator, _, _ = condition
+    if operator == MASKED_EQ:
+        return 3 if width == 4 else 6
+    if width == 4:
+        return 2
+    return 4 if operator in (EQ, NE) else 5
+
+
+def emitted_condition(condition, fail):
+    """fail: the distance to behind the rule, counted from behind this condition's last instruction."""
+    index, width, operator, value, mask = condition
+    if operator == MASKED_EQ:
+        value &= mask
+    high, low = value >> 32, value & 0xffffffff
+    load_low = (LOAD, 0, 0, 16 + 8 * index)
+    load_high = (LOAD, 0, 0, 20 + 8 * index)
+    if operator == MASKED_EQ:
+        narrow = [load_low, (AND, 0, 0, mask & 0xffffffff), (IF_EQUAL, 0, fail, low)]
+        wide = [load_high, (AND, 0, 0, mask >> 32), (IF_EQUAL, 0, fail + 3, high)]
+    elif operator == EQ:
+        narrow = [load_low, (IF_EQUAL, 0, fail, low)]
+        wide = [load_high, (IF_EQUAL, 0, fail + 2, high)]
+    elif operator == NE:
+        narrow = [load_low, (IF_EQUAL, fail, 0, low)]
+        wide = [load_high, (IF_EQUAL, 0, 2, high)]
+    elif operator in (GE, GT):
+        narrow = [load_low, (IF_AT_LEAST if operator == GE else IF_GREATER, 0, fail, low)]
+        wide = [load_high, (IF_GREATER, 3, 0, high), (IF_EQUAL, 0, fail + 2, high)]
+    else:
+        narrow = [load_low, (IF_GREATER if operator == LE else IF_AT_LEAST, fail, 0, low)]
+        wide = [load_high, (IF_GREATER, fail + 3, 0, high), (IF_EQUAL, 0, 2, high)]
+    return (wide if width == 8 else []) + narrow
+
+
+def distances(rule):
+    """For each condition its distance and, where helper jumps stand right behind it, the distance that they were put in for; and the
+    distance in front of the last one."""
+    places, distance = [], 1
+    for condition in rule:
+        helped = None
+        if distance > FURTHEST:
+            helped, distance = distance, 1
+        places.append((distance, helped))
+        distance += size_of(condition)
+    return places, distance
+
+
+def helper_sets(rule):
+    return sum(helped is not None for _, helped in distances(rule)[0])
+
+
+def emitted_rule(rule, match):
+    places, distance = distances(rule)
+    steps = [(JUMP, 0, 0, 1), (JUMP, 0, 0, distance + 1)]
+    for condition, (fail, helped) in zip(reversed(rule), reversed(places)):
+        steps += emitted_condition(condition, fail)
+        if helped is not None:
+            steps += [(JUMP, 0, 0, 2), (JUMP, 0, 0, helped + 1), (JUMP, 0, 0, helped + 1)]
+    return steps + [(RETURN, 0, 0, match)]
+
+
+def emitted(rule_set):
+    architecture, mismatch, match, entries = rule_set
+    steps = [(LOAD, 0, 0, 4), (IF_EQUAL, 1, 0, ARCHITECTURE_WORDS[architecture]), (RETURN, 0, 0, KILL_PROCESS)]
+    if entries:
+        steps.append((LOAD, 0, 0, 0))
+    for number, rules in entries:
+        steps.append((IF_EQUAL, 0, 1, number))
+        if not rules:
+            steps += [(JUMP, 0, 0, 1), (JUMP, 0, 0, 2), (RETURN, 0, 0, match)]
+        for rule in rules:
+            steps += emitted_rule(rule, match)
+        steps.append((RETURN, 0, 0, mismatch))
+    return steps + [(RETURN, 0, 0, mismatch)]
+
+
+def rule_length(rule):
+    return 3 + sum(map(size_of, rule)) + 3 * helper_sets(rule)
+
+
+def length(rule_set):
+    """The number of instructions, summed without writing them."""
+    entries = rule_set[3]
+    if not entries:
+        return 4
+    return 5 + sum(2 + (sum(map(rule_length, rules)) if rules else 3) for _, rules in entries)
+
+
+def filter_bytes(rule_set):
+    return b"".join(struct.pack("<HBBI", *step) for step in emitted(rule_set))
+
+
+# ---- the answer
+
+
+def answer(data, room):
+    """(code, count, filter): the smallest code that applies."""
+    rule_set = decode(data)
+    if rule_set is None:
+        return 1, 0, b""
+    _, mismatch, match, entries = rule_set
+    numbers = [number for number, _ in entries]
+    rules = [rule for _, rules in entries for rule in rules]
+    if any(one >= next_one for one, next_one in zip(numbers, numbers[1:])):
+        return 2, 0, b""
+    if mismatch == match:
+        return 3, 0, b""
+    if not all(rules):
+        return 4, 0, b""
+    if any(condition[0] > 5 for rule in rules for condition in rule):
+        return 5, 0, b""
+    count = length(rule_set)
+    if count >= TOO_MANY:
+        return 6, count, b""
+    if room < 8 * count:
+        return 7, count, b""
+    written = filter_bytes(rule_set)
+    assert len(written) == 8 * count, "the summed length is not the written one"
+    return 0, count, written
+
+
+def main():
+    read, write = sys.stdin.buffer.read, sys.stdout.buffer.write
+    while head := read(8):
+        size, room = struct.unpack("<II", head)
+        code, count, written = answer(read(size), room)
+        write(struct.pack("<II", code, count) + written)
+
+
+if __name__ == "__main__":
+    main()
