@@ -42,6 +42,12 @@ Once = (p : List Instruction) (c : Call) → Climbs 0 (length p) (visits 0 0 p s
 abbrev pub Safe : Type 0
 Safe = (p : List Instruction) → accepts p ≡ true → (c : Call) → (a : ℕ) × (runs p c ≡ returns a)
 
+-- one that the kernel takes reads no scratch word before it has written it: whatever they hold at the start, every run is the same
+abbrev pub Scratch : Type 0
+Scratch =
+    (p : List Instruction) → accepts p ≡ true → (c : Call) (words : List ℕ) → length words ≡ 16
+    → run 0 p (record { A = 0; X = 0; M = words }) c ≡ runs p c
+
 -- ---- of bytes
 
 -- the emitted filter's bytes stand for the emitted filter
