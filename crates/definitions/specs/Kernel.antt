@@ -125,22 +125,21 @@ withWord j w k = eqb k j || w k
 abbrev pub narrowed : Words → ℕ → (ℕ → Words) → ℕ → Words
 narrowed w d ahead e = cond (eqb e d) (both (ahead e) w) (ahead e)
 
--- The kernel's forward pass. `written` holds the words that are written where the instruction before ends, `ahead` what the jumps
--- seen so far leave for each place from here on. The pass walks on behind a return as if it went on there, and behind a jump,
--- where only jumps lead, with every word.
+-- The kernel's forward pass, one instruction on: `here` holds the words that are written before it, `beyond` what the jumps seen so far
+-- leave for each place behind it, and `rest` is the pass over what is behind it. The pass walks on behind a return as if the run went
+-- on there, and behind a jump, where only jumps lead, with every word.
+unfoldable pub scratchNext : Effect → Words → (ℕ → Words) → (Words → (ℕ → Words) → Bool) → Bool
+scratchNext plain here beyond rest = rest here beyond
+scratchNext (reads k) here beyond rest = here k && rest here beyond
+scratchNext (writes k) here beyond rest = rest (withWord k here) beyond
+scratchNext (jumps d) here beyond rest = rest everyWord (narrowed here d beyond)
+scratchNext (branches d e) here beyond rest = rest everyWord (narrowed here d (narrowed here e beyond))
+scratchNext leaves here beyond rest = rest here beyond
+
 unfoldable pub scratchTaken : Words → (ℕ → Words) → List Instruction → Bool
 scratchTaken written ahead [] = true
 scratchTaken written ahead (i ∷ p) =
-    let here : Words = both written (ahead 0) in
-    let beyond : ℕ → Words = λ d. ahead (suc d) in
-    elim (effectOf i) [
-      | plain ↦ scratchTaken here beyond p
-      | reads k ↦ here k && scratchTaken here beyond p
-      | writes k ↦ scratchTaken (withWord k here) beyond p
-      | jumps d ↦ scratchTaken everyWord (narrowed here d beyond) p
-      | branches d e ↦ scratchTaken everyWord (narrowed here d (narrowed here e beyond)) p
-      | leaves ↦ scratchTaken here beyond p
-    ]
+    scratchNext (effectOf i) (both written (ahead 0)) (λ d. ahead (suc d)) (λ here beyond. scratchTaken here beyond p)
 
 -- ---- the whole
 

@@ -17,7 +17,7 @@ use Rattle.definitions.specs.Machine.{Call, State, Result, returns, stuck, Step
 use Rattle.definitions.specs.Machine.{Kind, ldAbs, ldLen, ldImm, ldMem, ldxLen, ldxImm, ldxMem, st, stx, tax, txa, neg, ja, retK, retA, unknown, alu, jump}
 use Rattle.definitions.specs.Machine.{Source, byK, byX, fetch, kindOf, intoA, compute, testHolds, operand, stepAs, step, run, runs, start}
 use Rattle.definitions.specs.Kernel.{eachTaken, Effect, plain, reads, writes, jumps, branches, leaves, effectAs, effectOf, endsInReturn}
-use Rattle.definitions.specs.Kernel.{Words, everyWord, noWord, both, withWord, narrowed, scratchTaken, accepts}
+use Rattle.definitions.specs.Kernel.{Words, everyWord, noWord, both, withWord, narrowed, scratchNext, scratchTaken, accepts}
 use Rattle.theorems.specs.Statements.{Scratch}
 use Rattle.theorems.proofs.Tests.{both-true, true-both, either-true}
 
@@ -176,18 +176,11 @@ module _ (here : Words) (beyond : ℕ → Words) (p : List Instruction) (c : Cal
     (again : (written : Words) (ahead : ℕ → Words) → scratchTaken written ahead p ≡ true → Same p c written ahead) where
   -- what the pass asks of the rest of the filter, by an instruction's effect
   Rest : Effect → Type 0
-  Rest x = (elim x [
-    | plain ↦ scratchTaken here beyond p
-    | reads k ↦ here k && scratchTaken here beyond p
-    | writes k ↦ scratchTaken (withWord k here) beyond p
-    | jumps d ↦ scratchTaken everyWord (narrowed here d beyond) p
-    | branches d e ↦ scratchTaken everyWord (narrowed here d (narrowed here e beyond)) p
-    | leaves ↦ scratchTaken here beyond p
-  ]) ≡ true
+  Rest x = scratchNext x here beyond (λ w f. scratchTaken w f p) ≡ true
 
   -- an instruction that is jumped over
   passed : (x : Effect) → Rest x → (d : ℕ) (s t : State) → Alike (beyond d) s t → run d p s c ≡ run d p t c
-  unfolding Rest
+  unfolding Rest scratchNext
   passed plain r d s t h = again here beyond r d s t (fewer (entered-ahead here beyond d) h)
   passed (reads k) r d s t h = again here beyond (both-true (here k) (scratchTaken here beyond p) r .1) d s t (fewer (entered-ahead here beyond d) h)
   passed (writes k) r d s t h = again (withWord k here) beyond r d s t (fewer (entered-ahead (withWord k here) beyond d) h)
@@ -202,7 +195,7 @@ module _ (here : Words) (beyond : ℕ → Words) (p : List Instruction) (c : Cal
 
   -- an instruction that is executed: on to where it goes
   went : (x : Effect) → Rest x → (d : ℕ) (s t : State) → Goes x d → Alike (after x here) s t → run d p s c ≡ run d p t c
-  unfolding Rest Goes after
+  unfolding Rest scratchNext Goes after
   went plain r d s t g h = again here beyond r d s t (fewer (λ k q. entered-here here beyond d k g q) h)
   went (reads j) r d s t g h =
       again here beyond (both-true (here j) (scratchTaken here beyond p) r .1) d s t (fewer (λ k q. entered-here here beyond d k g q) h)
@@ -226,7 +219,7 @@ module _ (here : Words) (beyond : ℕ → Words) (p : List Instruction) (c : Cal
   onward x r (gone d s t g h) = went x r d s t g h
 
   reads-written : (x : Effect) → Rest x → Reads x here
-  unfolding Rest Reads
+  unfolding Rest scratchNext Reads
   reads-written plain r = tt
   reads-written (reads k) r = both-true (here k) (scratchTaken here beyond p) r .0
   reads-written (writes k) r = tt

@@ -15,7 +15,7 @@ use Rattle.definitions.specs.declared.Width.{Width}
 use Rattle.definitions.specs.declared.Width.the-variants.{Dword, Qword}
 use Rattle.definitions.specs.declared.Condition.{Condition}
 use Rattle.definitions.specs.Machine.{Kind, ldAbs, ldLen, ldImm, ldMem, ldxLen, ldxImm, ldxMem, st, stx, tax, txa, neg, ja, retK, retA, unknown, alu, jump, codes, kindIn, kindOf}
-use Rattle.definitions.specs.Kernel.{constantTaken, operandTaken, takenAs, eachTaken, Effect, plain, reads, writes, jumps, branches, leaves, effectAs, effectOf, isReturn, endsInReturn, Words, noWord, everyWord, withWord, narrowed, scratchTaken, accepts}
+use Rattle.definitions.specs.Kernel.{constantTaken, operandTaken, takenAs, eachTaken, Effect, plain, reads, writes, jumps, branches, leaves, effectAs, effectOf, isReturn, endsInReturn, Words, noWord, everyWord, scratchNext, scratchTaken, accepts}
 use Rattle.definitions.specs.RuleSet.{Architecture, x86-64, aarch64, architectureWord, Rule, Entry, RuleSet, killProcess, oneOf, plainActions, numberedActions, isAction}
 use Rattle.definitions.specs.Format.{Each, MaskInRange, ConditionInRange, EntryInRange, InRange}
 use Rattle.definitions.specs.Answer.{indicesTaken}
@@ -66,29 +66,21 @@ each-taken at n [] e h = refl
 each-taken at n (i ∷ p) e h =
     true-both (lands-taken i at n (length p) (omega arith) (kindOf (i .code)) (h .0) .0) (each-taken (at + 1) n p (omega arith) (h .2))
 
-scratch-on : (x : Effect) (here : Words) (beyond : ℕ → Words) (p : List Instruction) → Quiet x
-    → ((w : Words) (f : ℕ → Words) → scratchTaken w f p ≡ true)
-    → elim x [
-      | plain ↦ scratchTaken here beyond p
-      | reads k ↦ here k && scratchTaken here beyond p
-      | writes k ↦ scratchTaken (withWord k here) beyond p
-      | jumps d ↦ scratchTaken everyWord (narrowed here d beyond) p
-      | branches d e ↦ scratchTaken everyWord (narrowed here d (narrowed here e beyond)) p
-      | leaves ↦ scratchTaken here beyond p
-    ] ≡ true
-unfolding Quiet
-scratch-on plain here beyond p q again = again _ _
-scratch-on (reads k) here beyond p q again = absurd q
-scratch-on (writes k) here beyond p q again = again _ _
-scratch-on (jumps d) here beyond p q again = again _ _
-scratch-on (branches d e) here beyond p q again = again _ _
-scratch-on leaves here beyond p q again = again _ _
+scratch-on : (x : Effect) (here : Words) (beyond : ℕ → Words) (rest : Words → (ℕ → Words) → Bool) → Quiet x
+    → ((w : Words) (f : ℕ → Words) → rest w f ≡ true) → scratchNext x here beyond rest ≡ true
+unfolding Quiet scratchNext
+scratch-on plain here beyond rest q again = again _ _
+scratch-on (reads k) here beyond rest q again = absurd q
+scratch-on (writes k) here beyond rest q again = again _ _
+scratch-on (jumps d) here beyond rest q again = again _ _
+scratch-on (branches d e) here beyond rest q again = again _ _
+scratch-on leaves here beyond rest q again = again _ _
 
 scratch-taken : (p : List Instruction) → Shaped p → (written : Words) (ahead : ℕ → Words) → scratchTaken written ahead p ≡ true
 unfolding scratchTaken Shaped effectOf
 scratch-taken [] h written ahead = refl
 scratch-taken (i ∷ p) h written ahead =
-    scratch-on (effectAs (kindOf (i .code)) i) _ _ p
+    scratch-on (effectAs (kindOf (i .code)) i) _ _ (λ w f. scratchTaken w f p)
     (lands-taken i 0 (1 + length p) (length p) (omega arith) (kindOf (i .code)) (h .0) .1) (scratch-taken p (h .2))
 
 -- ---- code that may stand behind something: of this shape, with a return at its end, and long enough to be jumped into

@@ -7,7 +7,7 @@ use lib.ListN.{replicate}
 use Rattle.definitions.specs.declared.Instruction.{Instruction}
 use Rattle.definitions.specs.Word.{numberOf, numberAt}
 use Rattle.definitions.specs.Machine.{instructionAt, instructionsAt, filterOf, codes, kindIn, kindOf}
-use Rattle.definitions.specs.Kernel.{constantTaken, operandTaken, takenAs, eachTaken, effectAs, effectOf, isReturn, endsInReturn, scratchTaken, accepts, acceptsBytes}
+use Rattle.definitions.specs.Kernel.{constantTaken, operandTaken, takenAs, eachTaken, effectAs, effectOf, isReturn, endsInReturn, scratchNext, scratchTaken, accepts, acceptsBytes}
 use Rattle.definitions.specs.Answer.{all}
 use Rattle.definitions.specs.Emitted.{instruction, load, jumpBy, ifEqual, return}
 use Rattle.definitions.proofs.Examples.Machine.{op}
@@ -30,7 +30,7 @@ good : all accepts (
     -- behind a jump, where no way leads, every word counts as written
     ∷ (jumpBy 1 ∷ op 0x60 3 ∷ return 0 ∷ [])
     ∷ []) ≡ true
-unfolding accepts eachTaken takenAs operandTaken constantTaken endsInReturn isReturn scratchTaken effectOf effectAs kindOf kindIn codes
+unfolding accepts eachTaken takenAs operandTaken constantTaken endsInReturn isReturn scratchTaken scratchNext effectOf effectAs kindOf kindIn codes
 good = refl
 
 broken : all (λ (p : List Instruction). not (accepts p)) (
@@ -55,15 +55,15 @@ broken : all (λ (p : List Instruction). not (accepts p)) (
     -- the pass walks on behind a return, so this read is refused although no way leads to it
     ∷ (return 0 ∷ op 0x60 0 ∷ return 0 ∷ [])
     ∷ []) ≡ true
-unfolding accepts eachTaken takenAs operandTaken constantTaken endsInReturn isReturn scratchTaken effectOf effectAs kindOf kindIn codes
+unfolding accepts eachTaken takenAs operandTaken constantTaken endsInReturn isReturn scratchTaken scratchNext effectOf effectAs kindOf kindIn codes
 broken = refl
 
 -- 4,096 instructions are taken, one more is not
 longest : (accepts (replicate 4095 (load 0) ++ (return 0 ∷ [])) ≡ true) × (accepts (replicate 4096 (load 0) ++ (return 0 ∷ [])) ≡ false)
-unfolding accepts eachTaken takenAs operandTaken constantTaken endsInReturn isReturn scratchTaken effectOf effectAs kindOf kindIn codes
+unfolding accepts eachTaken takenAs operandTaken constantTaken endsInReturn isReturn scratchTaken scratchNext effectOf effectAs kindOf kindIn codes
 longest = (refl, refl)
 
 -- bytes that are not a multiple of eight are no filter
 whole : (acceptsBytes (6 ∷ 0 ∷ 0 ∷ 0 ∷ 0 ∷ 0 ∷ 0 ∷ 0 ∷ []) ≡ true) × (acceptsBytes (6 ∷ 0 ∷ 0 ∷ 0 ∷ 0 ∷ 0 ∷ 0 ∷ 0 ∷ 0 ∷ []) ≡ false)
-unfolding acceptsBytes filterOf instructionsAt instructionAt numberAt numberOf accepts eachTaken takenAs endsInReturn isReturn scratchTaken effectOf effectAs kindOf kindIn codes
+unfolding acceptsBytes filterOf instructionsAt instructionAt numberAt numberOf accepts eachTaken takenAs endsInReturn isReturn scratchTaken scratchNext effectOf effectAs kindOf kindIn codes
 whole = (refl, refl)
