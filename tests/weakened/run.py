@@ -32,7 +32,8 @@ def attempt(label, wanted):
         for part in parts:
             shutil.copytree(root / "crates" / crate / part, folder / "crates" / crate / part)
     (folder / "crates.txt").write_text("definitions:\ntheorems: definitions\n")
-    apply(root / "crates" / "definitions" / "must-fail" / f"{label}.edit", folder / "crates" / "definitions")
+    own = here / f"{label}.edit"
+    apply(own if own.exists() else root / "crates" / "definitions" / "must-fail" / f"{label}.edit", folder / "crates" / "definitions")
     done = subprocess.run(["rt", "check", "theorems"], cwd=folder, capture_output=True, text=True)
     log = folder / "target" / "log"
     if "logic=proved" not in (log / "definitions.out").read_text():

@@ -114,9 +114,10 @@ isListed n (e ∷ es) = eqb n (e .number) || isListed n es
 pub data MoreEntries (old new : List Entry) : Type 0 where
   listing : (before behind : List Entry) (e : Entry) → isListed (e .number) old ≡ false
       → old ≡ before ++ behind → new ≡ before ++ (e ∷ behind) → MoreEntries old new
-  adding : (before behind : List Entry) (n : ℕ) (front : List Rule) (r s : Rule) (back : List Rule)
-      → old ≡ before ++ (record { number = n; rules = front ++ (s ∷ back) } ∷ behind)
-      → new ≡ before ++ (record { number = n; rules = front ++ (r ∷ (s ∷ back)) } ∷ behind)
+  adding : (before behind : List Entry) (n : ℕ) (front back : List Rule) (r some : Rule) (others : List Rule)
+      → front ++ back ≡ some ∷ others
+      → old ≡ before ++ (record { number = n; rules = front ++ back } ∷ behind)
+      → new ≡ before ++ (record { number = n; rules = front ++ (r ∷ back) } ∷ behind)
       → MoreEntries old new
 
 pub record Grown (old new : RuleSet) : Type 0 where

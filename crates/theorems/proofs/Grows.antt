@@ -25,14 +25,20 @@ any-more c (f ∷ front) back r h = go (allHold c f) h (any-more c front back r)
     go true e more = refl
     go false e more = more e
 
-matches-some : (c : Call) (front back : List Rule) (s : Rule) → matches c (front ++ (s ∷ back)) ≡ anyHolds c (front ++ (s ∷ back))
+-- with some rules, an entry matches where one of them does
+matches-some : (c : Call) (rs : List Rule) (r : Rule) (others : List Rule) → rs ≡ r ∷ others → matches c rs ≡ anyHolds c rs
 unfolding matches
-matches-some c [] back s = refl
-matches-some c (f ∷ front) back s = refl
+matches-some c rs r others e = rw e
 
-matches-more : (c : Call) (front back : List Rule) (r s : Rule) → matches c (front ++ (s ∷ back)) ≡ true → matches c (front ++ (r ∷ (s ∷ back))) ≡ true
-matches-more c front back r s h =
-    matches-some c front (s ∷ back) r ∙ any-more c front (s ∷ back) r (sym (matches-some c front back s) ∙ h)
+matches-added : (c : Call) (front back : List Rule) (r : Rule) → matches c (front ++ (r ∷ back)) ≡ anyHolds c (front ++ (r ∷ back))
+unfolding matches
+matches-added c [] back r = refl
+matches-added c (f ∷ front) back r = refl
+
+matches-more : (c : Call) (front back : List Rule) (r some : Rule) (others : List Rule) → front ++ back ≡ some ∷ others
+    → matches c (front ++ back) ≡ true → matches c (front ++ (r ∷ back)) ≡ true
+matches-more c front back r some others e h =
+    matches-added c front back r ∙ any-more c front back r (sym (matches-some c (front ++ back) some others e) ∙ h)
 
 -- ---- what the entries say: the match action stays the match action
 
@@ -100,10 +106,10 @@ module _ (c : Call) (m d : ℕ) where
   listed-grows : (old new : List Entry) → MoreEntries old new → listed c m d old ≡ m → listed c m d new ≡ m
   listed-grows old new (listing before behind e u p q) h =
       rw q (same-front before behind (e ∷ behind) (new-number e behind (behind-unlisted (e .number) before behind (rw p at u))) (rw p at h))
-  listed-grows old new (adding before behind n front r s back p q) h =
+  listed-grows old new (adding before behind n front back r some others e p q) h =
       rw q
-      (same-front before (record { number = n; rules = front ++ (s ∷ back) } ∷ behind) (record { number = n; rules = front ++ (r ∷ (s ∷ back)) } ∷ behind)
-      (same-behind n (front ++ (s ∷ back)) (front ++ (r ∷ (s ∷ back))) behind (matches-more c front back r s)) (rw p at h))
+      (same-front before (record { number = n; rules = front ++ back } ∷ behind) (record { number = n; rules = front ++ (r ∷ back) } ∷ behind)
+      (same-behind n (front ++ back) (front ++ (r ∷ back)) behind (matches-more c front back r some others e)) (rw p at h))
 
 pub grows : Grows
 unfolding meaning

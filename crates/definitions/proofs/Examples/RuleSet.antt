@@ -10,7 +10,7 @@ use Rattle.definitions.specs.declared.Width.{Width}
 use Rattle.definitions.specs.declared.Width.the-variants.{Dword, Qword}
 use Rattle.definitions.specs.declared.Condition.{Condition}
 use Rattle.definitions.specs.Machine.{Call}
-use Rattle.definitions.specs.RuleSet.{oneOf, isAction, test, holds}
+use Rattle.definitions.specs.RuleSet.{x86-64, architectureWord, Rule, RuleSet, oneOf, isAction, test, holds, allHold, anyHolds, matches, listed, meaning}
 use Rattle.definitions.specs.Answer.{all}
 
 abbrev pub compared : Operator → Width → ℕ → ℕ → ℕ → Condition
@@ -82,6 +82,15 @@ masked-bits = (refl, refl)
 indexed : (holds (call 0 1 2 3) (compared Eq Qword 2 3 0) ≡ true) × (holds (call 0 1 2 3) (compared Eq Qword 1 3 0) ≡ false)
 unfolding holds test
 indexed = (refl, refl)
+
+-- ---- why `Grown` asks for an entry that has rules: a rule added to one without takes matches away
+
+abbrev one : List Rule → RuleSet
+one rs = record { architecture = x86-64; mismatch = errno 1; onMatch = allow; entries = record { number = 1; rules = rs } ∷ [] }
+
+unruled-shrinks : (meaning (one []) (call 1 2 0 0) ≡ allow) × (meaning (one ((compared Eq Dword 0 1 0 ∷ []) ∷ [])) (call 1 2 0 0) ≡ errno 1)
+unfolding meaning listed matches anyHolds allHold holds test architectureWord
+unruled-shrinks = (refl, refl)
 
 -- ---- action words
 
