@@ -1,4 +1,7 @@
 test:
 	bash .ci/run
 
-.PHONY: test
+bench:
+	python3 bench/run.py
+
+.PHONY: test bench

@@ -58,7 +58,7 @@ def build_oracle():
     source = lent_source()
     need_rustc()
     lent = {source / f"src--backend--{name}.rs.txt": f"backend/{name}.rs" for name in BACKEND}
-    ours = {HERE / name: name for name in ("libc.rs", "format.rs", "main.rs")}
+    ours = {HERE / name: name for name in ("libc.rs", "format.rs", "convert.rs", "main.rs")}
     done, stamp, digest = fresh("oracle", [HERE / "build.py", *lent, *ours])
     if not done:
         for path, name in {**lent, **ours}.items():

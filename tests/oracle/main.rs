@@ -5,17 +5,16 @@
 // All numbers have 4 bytes, lowest byte first. With the argument `differences` it instead tries the listed differences on the real code.
 
 mod backend;
+mod convert;
 mod format;
 
-use std::collections::BTreeMap;
 use std::io::{self, BufReader, BufWriter, Write};
 
 use backend::{
     BpfProgram, Error, SeccompAction, SeccompCmpArgLen, SeccompCmpOp, SeccompCondition, SeccompFilter, SeccompRule, TargetArch,
 };
-use format::{next_bytes, next_word, read_set, RuleSet};
-
-type Rules = BTreeMap<i64, Vec<SeccompRule>>;
+use convert::{condition, filter_of, Rules};
+use format::{next_bytes, next_word, read_set};
 
 // how often the real code was asked for each of its opinions, and how often it refused
 #[derive(Default)]
@@ -48,48 +47,6 @@ impl Opinions {
             eprintln!("oracle: {name}: asked {}, refused {}, disagreements 0", self.asked[which], self.refused[which]);
         }
     }
-}
-
-fn action(word: u32) -> SeccompAction {
-    let made = match word >> 16 {
-        0x8000 => SeccompAction::KillProcess,
-        0x0000 => SeccompAction::KillThread,
-        0x0003 => SeccompAction::Trap,
-        0x0005 => SeccompAction::Errno(word & 0xffff),
-        0x7ff0 => SeccompAction::Trace(word & 0xffff),
-        0x7ffc => SeccompAction::Log,
-        0x7fff => SeccompAction::Allow,
-        _ => unreachable!("the reader took an unknown action"),
-    };
-    assert_eq!(u32::from(made.clone()), word, "seccompiler returns another word for this action");
-    made
-}
-
-fn architecture(number: u32) -> TargetArch {
-    match number {
-        1 => TargetArch::x86_64,
-        2 => TargetArch::aarch64,
-        _ => unreachable!("the reader took an unknown architecture"),
-    }
-}
-
-fn condition(given: &format::Condition) -> Result<SeccompCondition, Error> {
-    let width = if given.wide { SeccompCmpArgLen::Qword } else { SeccompCmpArgLen::Dword };
-    let operator = match given.operator {
-        format::EQ => SeccompCmpOp::Eq,
-        format::GE => SeccompCmpOp::Ge,
-        format::GT => SeccompCmpOp::Gt,
-        format::LE => SeccompCmpOp::Le,
-        format::LT => SeccompCmpOp::Lt,
-        format::MASKED_EQ => SeccompCmpOp::MaskedEq(given.mask),
-        format::NE => SeccompCmpOp::Ne,
-        _ => unreachable!("the reader took an unknown operator"),
-    };
-    SeccompCondition::new(given.index, width, operator, given.value)
-}
-
-fn filter_of(set: &RuleSet, rules: Rules) -> Result<SeccompFilter, Error> {
-    SeccompFilter::new(rules, action(set.mismatch), action(set.on_match), architecture(set.architecture))
 }
 
 fn answer(bytes: &[u8], room: u32, opinions: &mut Opinions) -> (u32, u32, BpfProgram) {
