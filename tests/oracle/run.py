@@ -1,6 +1,7 @@
 #!/usr/bin/env python3
 """The gate's comparison with the real seccompiler 0.5.0: builds the proved compiler as an archive, a host around it and the oracle, and
-has compare.py give both the same sets. Where the oracle cannot be built nothing is compared: that is one skipped, not a failure."""
+has compare.py give both the same sets. Where the oracle cannot be built nothing is compared: that is one skipped, not a failure.
+Arguments are compare.py's."""
 import subprocess
 import sys
 
