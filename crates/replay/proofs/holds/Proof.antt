@@ -1,0 +1,100 @@
+-- `holds` meets its contract: the compiler's contract makes the answer the definition's, and the two comparisons give the bytes.
+-- Assumes nothing.
+use native.Mathlib.Omega.{arith}
+use borrow.Author.Needs.{needs}
+use borrow.Author.Tests.{not-false}
+use denote.Ref.{now}
+use lib.ListN.{length-take}
+use Rattle.replay.proofs.Laws.{never, answered}
+use Rattle.replay.proofs.holds.Statement.{statement}
+use Rattle.replay.proofs.holds.Tie as tie
+
+fill-requires : tie.Need-fill-requires
+fill-requires c κs = search needs
+
+callfilter-compile-requires : tie.Need-callfilter-compile-requires
+callfilter-compile-requires c κs = search needs
+
+same-length : tie.Need-same-length
+same-length c = search needs
+
+returns : tie.Need-returns
+returns c = never
+
+same-length-2 : tie.Need-same-length-2
+same-length-2 c = search needs
+
+returns-2 : tie.Need-returns-2
+returns-2 c = never
+
+same-length-3 : tie.Need-same-length-3
+same-length-3 c = search needs
+
+returns-3 : tie.Need-returns-3
+returns-3 c = never
+
+slice-reshare-prefix-same : tie.Need-slice-reshare-prefix-same
+slice-reshare-prefix-same c = search needs
+
+slice-aggregate-same : tie.Need-slice-aggregate-same
+slice-aggregate-same c = simp length-take (omega arith)
+
+same-requires : tie.Need-same-requires
+same-requires c κs = search needs
+
+same-length-4 : tie.Need-same-length-4
+same-length-4 c = search needs
+
+returns-4 : tie.Need-returns-4
+returns-4 c = never
+
+untouched-requires : tie.Need-untouched-requires
+untouched-requires c κs = search needs
+
+same-length-5 : tie.Need-same-length-5
+same-length-5 c = search needs
+
+returns-5 : tie.Need-returns-5
+returns-5 c =
+    let same = c .before .before .before .same in
+    let counted = c .before .before .before .before .before .before in
+    let compiled = counted .before .before .before .before .before .before in
+    let args = compiled .before .before .before .before .before .before .before .before .before .args in
+    λ passed.
+    record {
+      answered =
+          answered
+          (now (args .set))
+          _
+          _
+          (compiled .callfilter-compile .result)
+          _
+          _
+          (compiled .callfilter-compile .ensures)
+          (compiled .callfilter-compile .kept .1 .0)
+          (counted .before .before .if1 .left)
+          (counted .if2 .left);
+      written = same .ensures .0 (not-false (same .result) (c .before .before .if4 .left));
+      untouched = c .untouched .ensures passed;
+    }
+
+pub holds-spec : {M : Type 1} → statement M
+holds-spec =
+    tie.close
+    (tie.spec
+    fill-requires
+    callfilter-compile-requires
+    same-length
+    returns
+    same-length-2
+    returns-2
+    same-length-3
+    returns-3
+    slice-reshare-prefix-same
+    slice-aggregate-same
+    same-requires
+    same-length-4
+    returns-4
+    untouched-requires
+    same-length-5
+    returns-5)
