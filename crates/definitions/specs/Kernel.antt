@@ -139,7 +139,9 @@ scratchNext leaves here beyond rest = rest here beyond
 unfoldable pub scratchTaken : Words → (ℕ → Words) → List Instruction → Bool
 scratchTaken written ahead [] = true
 scratchTaken written ahead (i ∷ p) =
-    scratchNext (effectOf i) (both written (ahead 0)) (λ d. ahead (suc d)) (λ here beyond. scratchTaken here beyond p)
+    let here : Words = both written (ahead 0) in
+    let beyond : ℕ → Words = λ d. ahead (suc d) in
+    scratchNext (effectOf i) here beyond (λ v f. scratchTaken v f p)
 
 -- ---- the whole
 
