@@ -46,21 +46,6 @@ pub record Call : Type 0 where
   pub argument4 : ℕ
   pub argument5 : ℕ
 
--- the call that the kernel's 64 bytes stand for: number, architecture, where the call was made, six arguments
-unfoldable pub callOf : List ℕ → Call
-callOf bs =
-    record {
-      number = numberAt 4 bs 0;
-      architecture = numberAt 4 bs 4;
-      pointer = numberAt 8 bs 8;
-      argument0 = numberAt 8 bs 16;
-      argument1 = numberAt 8 bs 24;
-      argument2 = numberAt 8 bs 32;
-      argument3 = numberAt 8 bs 40;
-      argument4 = numberAt 8 bs 48;
-      argument5 = numberAt 8 bs 56;
-    }
-
 -- the sixteen words of the call's 64 bytes
 unfoldable pub words : Call → List ℕ
 words c =

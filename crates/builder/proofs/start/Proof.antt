@@ -1,0 +1,34 @@
+-- `start` meets its contract: a refusal writes nothing, and else the head is put at the front.
+use mathlib.Core.Path.{_∙_, sym}
+use native.Mathlib.Omega.{arith}
+use borrow.Author.Tests.{not-true, not-false, lt-leb}
+use Rattle.builder.specs.Writing.{startCode}
+use Rattle.builder.proofs.Writers.{begin-refused, begun-set}
+use borrow.Author.Needs.{needs}
+use Rattle.builder.proofs.start.Statement.{statement}
+use Rattle.builder.proofs.start.Tie as tie
+
+head-good-requires : tie.Need-head-good-requires
+head-good-requires c κs = search needs
+
+returns : tie.Need-returns
+unfolding startCode
+returns c = begin-refused 1 (λ z. omega arith) (rw (← c .before .head-good .ensures, not-true (c .before .head-good .result) (c .if1 .taken)))
+
+returns-2 : tie.Need-returns-2
+unfolding startCode
+returns-2 c = begin-refused 3 (λ z. omega arith) (rw (← c .before .before .head-good .ensures, not-false (c .before .before .head-good .result) (c .before .if1 .left), lt-leb _ _ (c .if2 .taken)))
+
+put-head-requires : tie.Need-put-head-requires
+put-head-requires c κs = search needs
+
+same-length : tie.Need-same-length
+same-length c = search needs
+
+returns-3 : tie.Need-returns-3
+returns-3 c = begun-set (sym (c .before .before .before .before .before .before .head-good .ensures) ∙ not-false (c .before .before .before .before .before .before .head-good .result) (c .before .before .before .before .before .if1 .left)) (c .before .before .before .before .if2 .left) (c .before .before .put-head .ensures)
+
+pub start-spec : {M : Type 1} → statement M
+start-spec =
+    tie.close
+    (tie.spec head-good-requires returns returns-2 put-head-requires same-length returns-3)

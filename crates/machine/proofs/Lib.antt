@@ -1,0 +1,6 @@
+pub mod Codes
+pub mod Walk
+pub mod Scratch
+pub mod Steps
+pub mod Answered
+pub mod Examples

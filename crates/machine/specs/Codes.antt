@@ -1,0 +1,127 @@
+-- What the tables of the code say of a kind of instruction, a letter for each, by its number in ASCII; and the code's effects as the
+-- definitions' own.
+use Prim.Native.Nat.{ℕ}
+use mathlib.Core.Bool.{cond}
+use lib.Dec.{eqb}
+use Rattle.definitions.specs.Machine.{Alu, add, sub, mul, div, or, and, lsh, rsh, xor}
+use Rattle.definitions.specs.Machine.{Source, byK, byX}
+use Rattle.definitions.specs.Machine.{Test, eq, gt, ge, set}
+use Rattle.definitions.specs.Machine.{Kind, ldAbs, ldLen, ldImm, ldMem, ldxLen, ldxImm, ldxMem, st, stx, tax, txa, neg, ja, retK, retA, unknown, alu, jump}
+use Rattle.definitions.specs.Kernel as kernel
+use Rattle.machine.specs.declared.Effect.{Effect}
+use Rattle.machine.specs.declared.Effect.the-variants.{Plain, Reads, Writes, Jumps, Branches, Leaves}
+
+-- the check of an instruction: y, c, m, j, b, d, s and the dot
+unfoldable pub constantLetter : Alu → ℕ
+constantLetter add = 121
+constantLetter sub = 121
+constantLetter mul = 121
+constantLetter div = 100
+constantLetter or = 121
+constantLetter and = 121
+constantLetter lsh = 115
+constantLetter rsh = 115
+constantLetter xor = 121
+
+unfoldable pub checkLetter : Kind → ℕ
+checkLetter ldAbs = 99
+checkLetter ldLen = 121
+checkLetter ldImm = 121
+checkLetter ldMem = 109
+checkLetter ldxLen = 121
+checkLetter ldxImm = 121
+checkLetter ldxMem = 109
+checkLetter st = 109
+checkLetter stx = 109
+checkLetter tax = 121
+checkLetter txa = 121
+checkLetter neg = 121
+checkLetter ja = 106
+checkLetter retK = 121
+checkLetter retA = 121
+checkLetter unknown = 46
+checkLetter (alu o byK) = constantLetter o
+checkLetter (alu o byX) = 121
+checkLetter (jump t x) = 98
+
+-- the effect of an instruction: r, w, j, b, l and the dot
+unfoldable pub effectLetter : Kind → ℕ
+effectLetter ldAbs = 46
+effectLetter ldLen = 46
+effectLetter ldImm = 46
+effectLetter ldMem = 114
+effectLetter ldxLen = 46
+effectLetter ldxImm = 46
+effectLetter ldxMem = 114
+effectLetter st = 119
+effectLetter stx = 119
+effectLetter tax = 46
+effectLetter txa = 46
+effectLetter neg = 46
+effectLetter ja = 106
+effectLetter retK = 108
+effectLetter retA = 108
+effectLetter unknown = 46
+effectLetter (alu o x) = 46
+effectLetter (jump t x) = 98
+
+abbrev pub meant : Effect → kernel.Effect
+meant Plain = kernel.plain
+meant (Reads k) = kernel.reads k
+meant (Writes k) = kernel.writes k
+meant (Jumps k) = kernel.jumps k
+meant (Branches t f) = kernel.branches t f
+meant Leaves = kernel.leaves
+
+-- ---- the kind of a code, for running it: a letter, and the operation and the source that are in the code's own bits
+
+unfoldable pub kindLetter : Kind → ℕ
+kindLetter ldAbs = 99
+kindLetter ldLen = 108
+kindLetter ldImm = 105
+kindLetter ldMem = 109
+kindLetter ldxLen = 76
+kindLetter ldxImm = 73
+kindLetter ldxMem = 77
+kindLetter st = 115
+kindLetter stx = 83
+kindLetter tax = 120
+kindLetter txa = 97
+kindLetter neg = 110
+kindLetter ja = 106
+kindLetter retK = 107
+kindLetter retA = 114
+kindLetter unknown = 46
+kindLetter (alu o x) = 43
+kindLetter (jump t x) = 63
+
+unfoldable pub aluNumbered : ℕ → Alu
+aluNumbered n =
+    cond (eqb n 0) add
+    (cond (eqb n 1) sub
+    (cond (eqb n 2) mul
+    (cond (eqb n 3) div (cond (eqb n 4) or (cond (eqb n 5) and (cond (eqb n 6) lsh (cond (eqb n 7) rsh xor)))))))
+
+unfoldable pub testNumbered : ℕ → Test
+testNumbered n = cond (eqb n 1) eq (cond (eqb n 2) gt (cond (eqb n 3) ge set))
+
+unfoldable pub sourceNumbered : ℕ → Source
+sourceNumbered n = cond (eqb n 0) byK byX
+
+unfoldable pub kindAs : ℕ → ℕ → ℕ → Kind
+kindAs l o x =
+    cond (eqb l 99) ldAbs
+    (cond (eqb l 108) ldLen
+    (cond (eqb l 105) ldImm
+    (cond (eqb l 109) ldMem
+    (cond (eqb l 76) ldxLen
+    (cond (eqb l 73) ldxImm
+    (cond (eqb l 77) ldxMem
+    (cond (eqb l 115) st
+    (cond (eqb l 83) stx
+    (cond (eqb l 120) tax
+    (cond (eqb l 97) txa
+    (cond (eqb l 110) neg
+    (cond (eqb l 106) ja
+    (cond (eqb l 107) retK
+    (cond (eqb l 114) retA (cond (eqb l 43) (alu (aluNumbered o) (sourceNumbered x)) (cond (eqb l 63) (jump (testNumbered o) (sourceNumbered x)) unknown))))))))))))))))
