@@ -2,12 +2,12 @@
 // answers for a filter can so be put beside what a kernel answers for the same bytes.
 ghost use mathlib.Core.Path.{_≡_};
 ghost use mathlib.Core.Bool.{true, _&&_};
+ghost use mathlib.Core.Option.{some};
 ghost use Prim.Native.Nat.{ℕ, _+_, _-_, _*_, _/_, _%_, _^_, _≤_, _<_};
 ghost use lib.Bits.{bitAnd};
 ghost use lib.Dec.{eqb, ltb};
 ghost use lib.ListN.{length, getD, set};
 ghost use Rattle.definitions.specs.Word.{low, numberAt};
-ghost use mathlib.Core.Option.{some};
 ghost use Rattle.definitions.specs.Machine.{instructionAt, filterOf, kindOf, runs, steps};
 ghost use Rattle.definitions.specs.Machine as machine;
 ghost use Rattle.definitions.specs.Kernel.{takenAs, eachTaken, effectOf, endsInReturn, noWord, everyWord, withWord, scratchTaken, acceptsBytes};
@@ -32,7 +32,8 @@ const CHECKS: [u8; 176] = *b"\
     ................\
     ....y.......y...";
 
-// What an instruction does to scratch words and where it may go, by its code: r reads a word, w writes one, j jumps, b branches, l leaves.
+// What an instruction does to scratch words and where it may go, by its code: r reads a word, w writes one, j jumps, b branches,
+// l leaves.
 const EFFECTS: [u8; 176] = *b"\
     ..ww.jl.........\
     .....bl......b..\
@@ -46,7 +47,9 @@ const EFFECTS: [u8; 176] = *b"\
     ................\
     ................";
 
-// What kind of instruction a code is: letters for each but + for arithmetic and ? for a conditional jump, whose operation and source are in the code.
+// What kind of instruction a code is. For the accumulator, and in capitals for the index register: l loads the call's length, i a
+// constant, m a scratch word, s stores. c loads a word of the call, x and a copy to the register of that name, n negates, j jumps,
+// k and r return a constant and the accumulator. + computes and ? compares: which operation and which source is in the code's bits.
 const KINDS: [u8; 176] = *b"\
     iIsS+jkx....+...\
     ....+?r.....+?..\
