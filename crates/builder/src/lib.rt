@@ -8,7 +8,6 @@ ghost use Prim.Native.Nat.{_+_, _≤_, _<_};
 ghost use lib.Dec.{eqb};
 ghost use lib.ListN.{length};
 ghost use Rattle.definitions.specs.Word.{bytesOf, numberAt};
-ghost use Rattle.definitions.specs.RuleSet.{isAction};
 ghost use Rattle.definitions.specs.Format.{architectureOf, widthOf};
 ghost use Rattle.bpf.specs.Place.{place};
 ghost use Rattle.builder.specs.Parts.{withEntry, withRule, conditionPart};
@@ -111,41 +110,16 @@ fn architecture_known(a: u32) -> bool
     a == 2
 }
 
-fn is_action(w: u32) -> bool
-    ensures { λ r. ⌜ r ≡ isAction w ⌝ }
-{
-    if w == 0x80000000 {
-        return true;
-    }
-    if w == 0x00000000 {
-        return true;
-    }
-    if w == 0x00030000 {
-        return true;
-    }
-    if w == 0x7ffc0000 {
-        return true;
-    }
-    if w == 0x7fff0000 {
-        return true;
-    }
-    let kind = w / 65536;
-    if kind == 0x0005 {
-        return true;
-    }
-    kind == 0x7ff0
-}
-
 fn head_good(architecture: u32, mismatch: u32, matching: u32) -> bool
     ensures { λ r. ⌜ r ≡ headGood architecture mismatch matching ⌝ }
 {
     if !architecture_known(architecture) {
         return false;
     }
-    if !is_action(mismatch) {
+    if !ruleset::is_action(mismatch) {
         return false;
     }
-    is_action(matching)
+    ruleset::is_action(matching)
 }
 
 // Writes the head of a set with no entries.

@@ -250,7 +250,7 @@ fn scan_entries(s: &[u8], n: u32, from: usize) -> Scan
 }
 
 // Whether a word is an action that is known.
-fn is_action(w: u32) -> bool
+pub fn is_action(w: u32) -> bool
     ensures { λ r. ⌜ r ≡ isAction w ⌝ }
 {
     if w == 0x80000000 {
