@@ -7,7 +7,10 @@ ghost use lib.ListN.{length};
 ghost use Rattle.definitions.specs.Word.{numberAt};
 ghost use Rattle.definitions.specs.Answer as answers;
 ghost use Rattle.definitions.specs.Compiled.{Compiled};
+ghost use Rattle.definitions.specs.Kernel.{acceptsBytes};
+ghost use Rattle.definitions.specs.Outcome.{outcomeOf};
 use definitions::Answer;
+use definitions::Outcome;
 
 fn give(code: u32, count: u32) -> Answer
     ensures { λ r. ⌜ r ≡ answers.answer code count ⌝ }
@@ -70,4 +73,20 @@ pub extern "C" fn callfilter_compile(set: &[u8], out: &mut [u8]) -> Answer
     }
     filter::put_filter(out, set);
     r
+}
+
+// Whether the kernel would take a filter.
+#[no_mangle]
+pub extern "C" fn callfilter_accepts(filter: &[u8]) -> bool
+    ensures { λ r. ⌜ r ≡ acceptsBytes (now (filter .entry)) ⌝ }
+{
+    machine::accepts(filter)
+}
+
+// What a filter does with a call.
+#[no_mangle]
+pub extern "C" fn callfilter_run(filter: &[u8], call: &[u8]) -> Outcome
+    ensures { λ r. ⌜ r ≡ outcomeOf (now (filter .entry)) (now (call .entry)) ⌝ }
+{
+    machine::run(filter, call)
 }

@@ -5,3 +5,4 @@ pub mod Kernel
 pub mod RuleSet
 pub mod Emitted
 pub mod Answer
+pub mod Outcome

@@ -6,3 +6,4 @@ pub mod Emitted
 pub mod Format
 pub mod Answer
 pub mod Compiled
+pub mod Outcome

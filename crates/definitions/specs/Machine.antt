@@ -46,6 +46,21 @@ pub record Call : Type 0 where
   pub argument4 : ℕ
   pub argument5 : ℕ
 
+-- struct seccomp_data of seccomp(2): the number, the architecture, the instruction pointer, six arguments, lowest byte first
+abbrev pub callOf : List ℕ → Call
+callOf d =
+    record {
+      number = numberAt 4 d 0;
+      architecture = numberAt 4 d 4;
+      pointer = numberAt 8 d 8;
+      argument0 = numberAt 8 d 16;
+      argument1 = numberAt 8 d 24;
+      argument2 = numberAt 8 d 32;
+      argument3 = numberAt 8 d 40;
+      argument4 = numberAt 8 d 48;
+      argument5 = numberAt 8 d 56;
+    }
+
 -- the sixteen words of the call's 64 bytes
 unfoldable pub words : Call → List ℕ
 words c =

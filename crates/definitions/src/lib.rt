@@ -41,3 +41,12 @@ pub struct Answer {
     pub code: u32,
     pub count: u32,
 }
+
+// What became of a run: 0 with the action and the number of instructions executed, 1 for a filter that the kernel would not take,
+// 9 for a call that is not 64 bytes.
+#[repr(C)]
+pub struct Outcome {
+    pub code: u32,
+    pub action: u32,
+    pub steps: u32,
+}

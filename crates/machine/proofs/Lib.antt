@@ -2,5 +2,3 @@ pub mod Codes
 pub mod Walk
 pub mod Scratch
 pub mod Steps
-pub mod Answered
-pub mod Examples

@@ -12,15 +12,16 @@ use lib.ListN.{length, getD}
 use borrow.Author.Tests.{eqb-true, ltb-true}
 use Rattle.definitions.specs.declared.Instruction.{Instruction}
 use Rattle.definitions.specs.Word.{low, high, numberAt, AreBytes}
-use Rattle.definitions.specs.Machine.{Call, words, fetch, instructionAt, instructionsAt, filterOf, Result, returns, stuck, stop, next, step, run, visits, start, runs, steps}
+use Rattle.definitions.specs.Machine.{Call, callOf, words, fetch, instructionAt, instructionsAt, filterOf, Result, returns, stuck, stop, next, step, run, visits, start, runs, steps}
 use Rattle.definitions.specs.Machine as machine
 use Rattle.theorems.proofs.Tests.{both-true}
 use Rattle.theorems.proofs.Words.{number-at-small}
 use Rattle.bpf.proofs.Laws.{number-8}
 use Rattle.machine.specs.declared.Way.the-variants.{Next, Returns, Stuck}
 use Rattle.machine.specs.declared.Step.{Step}
-use Rattle.machine.specs.declared.Outcome.{Outcome}
-use Rattle.machine.specs.Run.{callOf, stateOf, Stepped, refused, ended}
+use Rattle.definitions.specs.declared.Outcome.{Outcome}
+use Rattle.definitions.specs.Outcome.{refused, ended}
+use Rattle.machine.specs.Run.{stateOf, Stepped}
 use Rattle.machine.proofs.Walk.{left-start, left-turn, left-end}
 
 -- a product of two 32-bit numbers has 64 bits

@@ -8,14 +8,16 @@ ghost use lib.Bits.{bitAnd};
 ghost use lib.Dec.{eqb, ltb};
 ghost use lib.ListN.{length, getD, set};
 ghost use Rattle.definitions.specs.Word.{low, numberAt};
-ghost use Rattle.definitions.specs.Machine.{instructionAt, filterOf, kindOf, runs, steps};
+ghost use Rattle.definitions.specs.Machine.{instructionAt, filterOf, callOf, kindOf, runs, steps};
 ghost use Rattle.definitions.specs.Machine as machine;
 ghost use Rattle.definitions.specs.Kernel.{takenAs, eachTaken, effectOf, endsInReturn, noWord, everyWord, withWord, scratchTaken, acceptsBytes};
 ghost use Rattle.machine.specs.Codes.{checkLetter, effectLetter, meant, aluNumbered, testNumbered, sourceNumbered, kindAs};
-ghost use Rattle.machine.specs.Run.{callOf, anyCall, stateOf, Stepped, ended, outcomeOf};
-ghost use Rattle.machine.specs.Run as run;
+ghost use Rattle.definitions.specs.Outcome.{ended, outcomeOf};
+ghost use Rattle.definitions.specs.Outcome as outcome;
+ghost use Rattle.machine.specs.Run.{anyCall, stateOf, Stepped};
 ghost use Rattle.machine.specs.Scratch.{wordsOf, aheadOf, Same, wordThere, jumpThere, readableIn, behindOf, beyondOf};
 use definitions::Instruction;
+use definitions::Outcome;
 
 // Which check the kernel makes of an instruction, by its code: y takes it as it is, c asks for a word of the call, m for a scratch
 // word, j for a jump inside, b for two, d for a divisor, s for a shift. A code with a dot is none, as is any above.
@@ -332,17 +334,8 @@ pub struct Step {
     pub state: State,
 }
 
-// What became of a run: 0 with the action and the number of instructions executed, 1 for a filter that the kernel would not take,
-// 9 for a call that is not 64 bytes.
-#[repr(C)]
-pub struct Outcome {
-    pub code: u32,
-    pub action: u32,
-    pub steps: u32,
-}
-
 fn refused() -> Outcome
-    ensures { λ r. ⌜ r ≡ run.refused ⌝ }
+    ensures { λ r. ⌜ r ≡ outcome.refused ⌝ }
 {
     Outcome {
         code: 1,

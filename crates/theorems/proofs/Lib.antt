@@ -6,6 +6,7 @@ pub mod Rules
 pub mod Right
 pub mod Once
 pub mod Safe
+pub mod Answered
 pub mod Scratch
 pub mod Taken
 pub mod Words

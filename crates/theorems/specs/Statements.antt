@@ -9,13 +9,14 @@ use lib.ListN.{length}
 use Rattle.definitions.specs.declared.Instruction.{Instruction}
 use Rattle.definitions.specs.declared.Answer.{Answer}
 use Rattle.definitions.specs.Word.{AreBytes}
-use Rattle.definitions.specs.Machine.{filterBytes, filterOf, Call, returns, start, run, runs, visits, steps, Climbs}
+use Rattle.definitions.specs.Machine.{filterBytes, filterOf, Call, callOf, returns, start, run, runs, visits, steps, Climbs}
 use Rattle.definitions.specs.Kernel.{accepts, acceptsBytes}
 use Rattle.definitions.specs.RuleSet.{RuleSet, meaning, Grown}
 use Rattle.definitions.specs.Emitted.{emitted}
 use Rattle.definitions.specs.Format.{InRange, encode, read}
 use Rattle.definitions.specs.Answer.{indicesTaken}
 use Rattle.definitions.specs.Compiled.{FormOf, filterIn, Compiled}
+use Rattle.definitions.specs.Outcome.{outcomeOf}
 use Rattle.theorems.specs.Length.{filterLength}
 
 -- ---- of the emitted filter
@@ -65,6 +66,12 @@ TakenBytes =
 abbrev pub OnceBytes : Type 0
 OnceBytes =
     (bs : List ℕ) (c : Call) → Climbs 0 (length bs / 8) (visits 0 0 (filterOf bs) start c) × (steps (filterOf bs) c ≤ length bs / 8)
+
+-- asking what a filter does answers 0 with an action, for every filter that the kernel takes and every call
+abbrev pub Answered : Type 0
+Answered =
+    (filter call : List ℕ) → acceptsBytes filter ≡ true → length call ≡ 64
+    → (a : ℕ) × (outcomeOf filter call ≡ record { code = 0; action = a; steps = steps (filterOf filter) (callOf call) })
 
 -- ---- of rule sets
 

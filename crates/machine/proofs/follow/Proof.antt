@@ -4,8 +4,9 @@ use native.Mathlib.Omega.{arith}
 use denote.Ref.{now}
 use Prim.Native.Nat.{_-_, _*_, _≤_}
 use lib.ListN.{length}
-use Rattle.definitions.specs.Machine.{instructionsAt, filterOf, runs, steps}
-use Rattle.machine.specs.Run.{callOf, stateOf, ended}
+use Rattle.definitions.specs.Machine.{instructionsAt, filterOf, callOf, runs, steps}
+use Rattle.definitions.specs.Outcome.{ended}
+use Rattle.machine.specs.Run.{stateOf}
 use Rattle.machine.proofs.Steps.{followed, follow-start, follow-next, follow-returns, follow-stuck, follow-end}
 use borrow.Author.Needs.{needs}
 use Rattle.machine.proofs.follow.Statement.{statement}

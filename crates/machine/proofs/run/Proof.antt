@@ -1,7 +1,7 @@
 -- `run` meets its contract: the call's size, the kernel's checks, then the run.
 use mathlib.Core.Path.{sym, _∙_}
 use borrow.Author.Tests.{eq-eqb, ne-eqb, not-true, not-false}
-use Rattle.machine.specs.Run.{outcomeOf}
+use Rattle.definitions.specs.Outcome.{outcomeOf}
 use Rattle.machine.proofs.Walk.{accepts-short}
 use borrow.Author.Needs.{needs}
 use Rattle.machine.proofs.run.Statement.{statement}

@@ -1,13 +1,13 @@
--- Examples of calls as bytes and of whole runs, by computation.
+-- Examples of Outcome, by computation: a call as bytes, and what is answered for whole runs.
 use mathlib.Core.Path.{_≡_, refl}
 use mathlib.Core.List.{List, [], _∷_, _++_}
 use Prim.Native.Nat.{ℕ}
 use lib.ListN.{replicate}
 use Rattle.definitions.specs.Word.{bytesOf, numberOf, numberAt}
-use Rattle.definitions.specs.Machine.{instructionBytes, filterBytes, instructionAt, instructionsAt, filterOf, words, fetch, codes, kindIn, kindOf, intoA, compute, testHolds, stepAs, step, run, visits}
+use Rattle.definitions.specs.Machine.{instructionBytes, filterBytes, instructionAt, instructionsAt, filterOf, callOf, words, fetch, codes, kindIn, kindOf, intoA, compute, testHolds, stepAs, step, run, visits}
 use Rattle.definitions.specs.Kernel.{constantTaken, operandTaken, takenAs, eachTaken, effectAs, effectOf, isReturn, endsInReturn, scratchNext, scratchTaken, accepts, acceptsBytes}
 use Rattle.definitions.specs.Emitted.{load, ifEqual, return}
-use Rattle.machine.specs.Run.{callOf, outcomeOf}
+use Rattle.definitions.specs.Outcome.{outcomeOf}
 
 -- number 7, architecture 0xc000003e, pointer 2 ^ 32 + 1, arguments 2, 3, 4, 5, 6 and 2 ^ 56
 abbrev call : List ℕ
