@@ -1,4 +1,4 @@
--- On the bytes of a rule set the readers give its parts back, in order: the theorems of specs/Back.antt.
+-- On the bytes of a rule set the readers give its parts back, in order: the theorems of crates/theorems/specs/Written.antt.
 use mathlib.Core.Path.{_≡_, refl, ap, sym, _∙_}
 use mathlib.Core.Bool.{true}
 use mathlib.Core.List.{List, [], _++_, append-assoc}
@@ -17,13 +17,13 @@ use Rattle.definitions.specs.declared.Condition.{Condition}
 use Rattle.definitions.specs.Word.{bytesOf, numberOf, numberAt}
 use Rattle.definitions.specs.RuleSet.{Architecture, x86-64, aarch64}
 use Rattle.definitions.specs.Format.{architectureNumber, widthNumber, operatorNumber, joined, encodeCondition, encodeRule, encodeEntry, encode}
-use Rattle.definitions.specs.Format.{MaskInRange, ConditionInRange, architectureOf, widthOf, operatorOf, maskTaken, conditionAt}
+use Rattle.definitions.specs.Format.{MaskInRange, ConditionInRange, architectureOf, widthOf, operatorOf, maskTaken, isThere, conditionAt}
+use Rattle.definitions.specs.Parts.{conditionOf}
+use Rattle.definitions.specs.Writers.{headGood}
+use Rattle.definitions.specs.Readers.{reaches, headOf, atEntry, atRule, entryOf, ruleOf, conditionFrom, comparedOf}
+use Rattle.theorems.specs.Written.{HeadBack, EntryBack, RuleBack, ConditionBack, AllRead}
 use Rattle.theorems.proofs.Words.{length-bytes, number-bytes, number-front}
 use Rattle.theorems.proofs.Taken.{action-small}
-use Rattle.builder.specs.Parts.{conditionOf}
-use Rattle.builder.specs.Writing.{isThere, headGood}
-use Rattle.builder.specs.Reading.{reaches, headOf, atEntry, atRule, entryOf, ruleOf, conditionFrom, comparedOf}
-use Rattle.builder.specs.Back.{HeadBack, EntryBack, RuleBack, ConditionBack, AllRead}
 use Rattle.builder.proofs.Sets.{few, length-condition, length-rule, length-entry}
 use Rattle.builder.proofs.Readers.{condition-at}
 
@@ -78,7 +78,7 @@ head-back rs g =
       next = record { code = 0; at = 16; entries = length (rs .entries); rules = 0; conditions = 0 };
       architecture = architectureNumber (rs .architecture);
       mismatch = rs .mismatch;
-      matching = rs .onMatch;
+      «on_match» = rs .onMatch;
     } =
     rw (le-leb (length s) 1048576 (omega arith), le-leb (0 + 16) (length s) (omega arith), first, second, third, fourth, known .0, g .mismatch, g .onMatch) in
     rw same

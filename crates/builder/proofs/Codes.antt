@@ -6,11 +6,11 @@ use Prim.Native.Nat.{ℕ, _+_, _≤_, _<_}
 use native.Mathlib.Omega.{arith}
 use lib.Dec.{eqb, leb}
 use borrow.Author.Tests.{leb-true}
+use Rattle.definitions.specs.declared.Writer.{Writer}
 use Rattle.definitions.specs.RuleSet.{x86-64, aarch64}
-use Rattle.definitions.specs.Format.{architectureOf}
+use Rattle.definitions.specs.Format.{architectureOf, isThere}
+use Rattle.definitions.specs.Writers.{stateFits, codeFor}
 use Rattle.theorems.proofs.Tests.{both-true}
-use Rattle.builder.specs.declared.Writer.{Writer}
-use Rattle.builder.specs.Writing.{isThere, stateFits, codeFor}
 
 pub architecture-there : (n : ℕ) → isThere (architectureOf n) ≡ (eqb n 1 || eqb n 2)
 unfolding architectureOf

@@ -1,4 +1,4 @@
--- Calls of the writers one after the other: the theorems of specs/Made.antt.
+-- Calls of the writers one after the other: the theorems of crates/theorems/specs/Written.antt.
 use mathlib.Core.Path.{_≡_, refl, ap, _∙_}
 use mathlib.Core.Bool.{Bool, true, false, cond, not}
 use mathlib.Core.List.{List, [], _∷_, _++_}
@@ -8,17 +8,17 @@ use lib.Dec.{eqb, leb, ltb}
 use lib.ListN.{length, length-append, length-take}
 use borrow.Author.Tests.{le-leb}
 use Rattle.definitions.specs.declared.Answer.{Answer}
+use Rattle.definitions.specs.declared.Writer.{Writer}
 use Rattle.definitions.specs.RuleSet.{Entry, RuleSet}
-use Rattle.definitions.specs.Format.{joined, encodeEntry, encode}
 use Rattle.definitions.specs.Emitted.{emitted}
+use Rattle.definitions.specs.Format.{joined, encodeEntry, encode}
 use Rattle.definitions.specs.Answer.{ascending, rulesFilled, indicesTaken, tooMany, answer, answerWith, answerOf}
+use Rattle.definitions.specs.Parts.{lastRules}
+use Rattle.definitions.specs.Writers.{RuleAt, noRule, lastRule, EntryAt, noEntry, lastEntry, Holds, stateFits, Made, begun, taken, refused}
+use Rattle.theorems.specs.Written.{Spelled, ReadBack, OfTheFormat, Fitting}
 use Rattle.theorems.proofs.Words.{length-bytes}
 use Rattle.theorems.proofs.Tests.{true-both}
 use Rattle.theorems.proofs.RoundTrip.{written-read}
-use Rattle.builder.specs.declared.Writer.{Writer}
-use Rattle.builder.specs.Parts.{lastRules}
-use Rattle.builder.specs.Writing.{RuleAt, noRule, lastRule, EntryAt, noEntry, lastEntry, Holds, stateFits}
-use Rattle.builder.specs.Made.{Made, begun, taken, refused, Spelled, ReadBack, OfTheFormat, Fitting}
 use Rattle.builder.proofs.Sets.{encode-entries, encode-rules, encode-conditions}
 
 -- a refusal's state says of a buffer what the state before it said

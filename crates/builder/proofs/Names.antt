@@ -14,11 +14,11 @@ use Rattle.definitions.specs.declared.Width.the-variants.{Dword, Qword}
 use Rattle.definitions.specs.declared.Condition.{Condition}
 use Rattle.definitions.specs.Word.{bytesOf}
 use Rattle.definitions.specs.RuleSet.{Architecture, x86-64, aarch64}
-use Rattle.definitions.specs.Format.{architectureNumber, widthNumber, operatorNumber, encodeCondition, MaskInRange, ConditionInRange}
+use Rattle.definitions.specs.Format.{architectureNumber, widthNumber, operatorNumber, encodeCondition, MaskInRange, ConditionInRange, isThere}
 use Rattle.definitions.specs.Format.{architectureOf, widthOf, operatorOf, maskTaken, then, check}
+use Rattle.definitions.specs.Parts.{withCondition, conditionOf, conditionPart}
 use Rattle.theorems.proofs.Tests.{then-some, check-some, some-same}
-use Rattle.builder.specs.Parts.{withCondition, conditionOf, conditionPart}
-use Rattle.builder.specs.Writing.{isThere, conditionGood, conditionBytes}
+use Rattle.builder.specs.Bytes.{conditionGood, conditionBytes}
 
 none-some : {A P : Type 0} {y : A} → none ≡ some y → P
 none-some h = absurd (let z : _≡_ {A = ℕ} 0 1 = cc in omega arith)

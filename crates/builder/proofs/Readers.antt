@@ -9,14 +9,14 @@ use lib.Dec.{eqb, leb}
 use lib.ListN.{length, getD}
 use borrow.Author.Tests.{leb-true, le-leb, eqb-true, eqb-false, eq-eqb, ne-eqb, not-true}
 use Rattle.definitions.specs.declared.Condition.{Condition}
+use Rattle.definitions.specs.declared.Cursor.{Cursor}
 use Rattle.definitions.specs.Word.{numberAt}
-use Rattle.definitions.specs.Format.{widthOf, operatorOf, maskTaken, Read, then, check, conditionAt}
+use Rattle.definitions.specs.Format.{widthOf, operatorOf, maskTaken, Read, then, check, conditionAt, isThere}
+use Rattle.definitions.specs.Parts.{conditionOf}
+use Rattle.definitions.specs.Readers.{reaches, atEntry, atRule, noCondition, conditionFrom, comparedOf}
 use Rattle.theorems.proofs.Tests.{both-true}
 use Rattle.bpf.proofs.Laws.{number-suc}
-use Rattle.builder.specs.declared.Cursor.{Cursor}
-use Rattle.builder.specs.Parts.{conditionOf}
-use Rattle.builder.specs.Writing.{isThere, conditionGood}
-use Rattle.builder.specs.Reading.{reaches, atEntry, atRule, noCondition, conditionFrom, comparedOf}
+use Rattle.builder.specs.Bytes.{conditionGood}
 use Rattle.builder.proofs.Names.{condition-numbers, numbers-there}
 
 pub reaches-true : (size at more : ℕ) → reaches size at more ≡ true → (size ≤ 1048576) × (at + more ≤ size)

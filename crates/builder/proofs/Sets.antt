@@ -10,9 +10,9 @@ use Rattle.definitions.specs.Word.{bytesOf}
 use Rattle.definitions.specs.RuleSet.{Rule, Entry, RuleSet}
 use Rattle.definitions.specs.Format.{architectureNumber, joined, encodeCondition, encodeRule, encodeEntry, encode, Each, EntryInRange}
 use Rattle.definitions.specs.Compiled.{FormOf}
+use Rattle.definitions.specs.Parts.{onLast, onEntries}
 use Rattle.theorems.proofs.Words.{length-bytes}
 use Rattle.bpf.specs.Place.{place}
-use Rattle.builder.specs.Parts.{onLast, onEntries}
 use Rattle.builder.proofs.Laws.{raised, part-taken}
 
 -- ---- the last of a list

@@ -9,16 +9,18 @@ use lib.Dec.{eqb}
 use lib.ListN.{length, length-append}
 use borrow.Author.Tests.{eq-eqb, le-leb}
 use Rattle.definitions.specs.declared.Condition.{Condition}
+use Rattle.definitions.specs.declared.Writer.{Writer}
 use Rattle.definitions.specs.Word.{bytesOf}
 use Rattle.definitions.specs.RuleSet.{Architecture, Rule, Entry, RuleSet, isAction}
 use Rattle.definitions.specs.Format.{architectureOf, joined, encodeCondition, encodeRule, encodeEntry, encode, Each, ConditionInRange, EntryInRange, InRange}
+use Rattle.definitions.specs.Format.{isThere}
+use Rattle.definitions.specs.Parts.{onLast, onRules, started, withEntry, withRule, withCondition, conditionOf, conditionPart}
+use Rattle.definitions.specs.Writers.{noRule, lastRule, EntryAt, noEntry, lastEntry, Holds, codeFor, headGood, startCode, Started, Added}
 use Rattle.theorems.proofs.Words.{length-bytes}
 use Rattle.theorems.proofs.Tests.{some-same, then-some, both-true}
 use Rattle.bpf.specs.Place.{place}
 use Rattle.bpf.proofs.Laws.{length-place}
-use Rattle.builder.specs.declared.Writer.{Writer}
-use Rattle.builder.specs.Parts.{onLast, onRules, started, withEntry, withRule, withCondition, conditionOf, conditionPart}
-use Rattle.builder.specs.Writing.{noRule, lastRule, EntryAt, noEntry, lastEntry, Holds, isThere, codeFor, headGood, startCode, headBytes, conditionGood, conditionBytes, Started, Added}
+use Rattle.builder.specs.Bytes.{headBytes, conditionGood, conditionBytes}
 use Rattle.builder.proofs.Laws.{raised, length-added, kept-behind, take-front, drop-place}
 use Rattle.builder.proofs.Codes.{Taken, code-zero}
 use Rattle.builder.proofs.Names.{architecture-forth, condition-named, length-numbers, part-there}

@@ -8,21 +8,17 @@ ghost use Prim.Native.Nat.{_+_, _≤_, _<_};
 ghost use lib.Dec.{eqb};
 ghost use lib.ListN.{length};
 ghost use Rattle.definitions.specs.Word.{bytesOf, numberAt};
-ghost use Rattle.definitions.specs.Format.{architectureOf, widthOf};
+ghost use Rattle.definitions.specs.Format.{architectureOf, widthOf, isThere};
+ghost use Rattle.definitions.specs.Parts.{withEntry, withRule, conditionPart};
+ghost use Rattle.definitions.specs.Writers.{stateFits, codeFor, headGood, Started, Added};
+ghost use Rattle.definitions.specs.Readers as readers;
 ghost use Rattle.bpf.specs.Place.{place};
-ghost use Rattle.builder.specs.Parts.{withEntry, withRule, conditionPart};
-ghost use Rattle.builder.specs.Writing.{isThere, stateFits, codeFor, headGood, headBytes, conditionGood, namesBytes, conditionBytes, Started, Added};
-ghost use Rattle.builder.specs.Reading as reading;
-
-// What became of the last call (0: it was taken), how many bytes are written, and the places of the open entry and of the open rule
-// (0: there is none).
-#[repr(C)]
-pub struct Writer {
-    pub code: u32,
-    pub end: u32,
-    pub entry: u32,
-    pub rule: u32,
-}
+ghost use Rattle.builder.specs.Bytes.{headBytes, conditionGood, namesBytes, conditionBytes};
+use definitions::Compared;
+use definitions::Cursor;
+use definitions::Head;
+use definitions::Listed;
+use definitions::Writer;
 
 // Writes the low four bytes of a number at a place.
 fn put_u32(out: &mut [u8], at: usize, v: u64)
@@ -110,8 +106,8 @@ fn architecture_known(a: u32) -> bool
     a == 2
 }
 
-fn head_good(architecture: u32, mismatch: u32, matching: u32) -> bool
-    ensures { λ r. ⌜ r ≡ headGood architecture mismatch matching ⌝ }
+fn head_good(architecture: u32, mismatch: u32, on_match: u32) -> bool
+    ensures { λ r. ⌜ r ≡ headGood architecture mismatch «on_match» ⌝ }
 {
     if !architecture_known(architecture) {
         return false;
@@ -119,25 +115,25 @@ fn head_good(architecture: u32, mismatch: u32, matching: u32) -> bool
     if !ruleset::is_action(mismatch) {
         return false;
     }
-    ruleset::is_action(matching)
+    ruleset::is_action(on_match)
 }
 
 // Writes the head of a set with no entries.
-fn put_head(out: &mut [u8], architecture: u32, mismatch: u32, matching: u32)
+fn put_head(out: &mut [u8], architecture: u32, mismatch: u32, on_match: u32)
     requires { ⌜ 16 ≤ length (now out) ⌝ }
-    ensures { λ _. ⌜ now (out .exit) ≡ place (now (out .entry)) 0 (headBytes architecture mismatch matching) ⌝ }
+    ensures { λ _. ⌜ now (out .exit) ≡ place (now (out .entry)) 0 (headBytes architecture mismatch «on_match») ⌝ }
 {
     put_u32(out, 0, architecture as u64);
     put_u32(out, 4, mismatch as u64);
-    put_u32(out, 8, matching as u64);
+    put_u32(out, 8, on_match as u64);
     put_u32(out, 12, 0);
 }
 
 // Starts a set: nothing is listed in it yet.
-pub fn start(out: &mut [u8], architecture: u32, mismatch: u32, matching: u32) -> Writer
-    ensures { λ r. ⌜ Started architecture mismatch matching (now (out .entry)) (now (out .exit)) r ⌝ }
+pub fn start(out: &mut [u8], architecture: u32, mismatch: u32, on_match: u32) -> Writer
+    ensures { λ r. ⌜ Started architecture mismatch «on_match» (now (out .entry)) (now (out .exit)) r ⌝ }
 {
-    if !head_good(architecture, mismatch, matching) {
+    if !head_good(architecture, mismatch, on_match) {
         return Writer {
             code: 1,
             end: 0,
@@ -153,7 +149,7 @@ pub fn start(out: &mut [u8], architecture: u32, mismatch: u32, matching: u32) ->
             rule: 0,
         };
     }
-    put_head(out, architecture, mismatch, matching);
+    put_head(out, architecture, mismatch, on_match);
     Writer {
         code: 0,
         end: 16,
@@ -292,43 +288,8 @@ pub fn add_condition(
     }
 }
 
-// What became of the last call (0: it gave a part), the place of the next part, and how many entries, rules of the open entry and
-// conditions of the open rule are left.
-#[repr(C)]
-pub struct Cursor {
-    pub code: u32,
-    pub at: u32,
-    pub entries: u32,
-    pub rules: u32,
-    pub conditions: u32,
-}
-
-#[repr(C)]
-pub struct Head {
-    pub next: Cursor,
-    pub architecture: u32,
-    pub mismatch: u32,
-    pub matching: u32,
-}
-
-#[repr(C)]
-pub struct Listed {
-    pub next: Cursor,
-    pub number: u32,
-}
-
-#[repr(C)]
-pub struct Compared {
-    pub next: Cursor,
-    pub index: u8,
-    pub width: u8,
-    pub operator: u8,
-    pub value: u64,
-    pub mask: u64,
-}
-
 fn stopped(c: Cursor, code: u32) -> Cursor
-    ensures { λ r. ⌜ r ≡ reading.stopped c code ⌝ }
+    ensures { λ r. ⌜ r ≡ readers.stopped c code ⌝ }
 {
     Cursor {
         code: code,
@@ -341,7 +302,7 @@ fn stopped(c: Cursor, code: u32) -> Cursor
 
 fn reaches(size: usize, at: u32, more: usize) -> bool
     requires { ⌜ more ≤ 24 ⌝ }
-    ensures { λ r. ⌜ r ≡ reading.reaches size at more ⌝ }
+    ensures { λ r. ⌜ r ≡ readers.reaches size at more ⌝ }
 {
     if 1048576 < size {
         return false;
@@ -350,7 +311,7 @@ fn reaches(size: usize, at: u32, more: usize) -> bool
 }
 
 fn no_head() -> Head
-    ensures { λ r. ⌜ r ≡ reading.noHead ⌝ }
+    ensures { λ r. ⌜ r ≡ readers.noHead ⌝ }
 {
     Head {
         next: Cursor {
@@ -362,21 +323,21 @@ fn no_head() -> Head
         },
         architecture: 0,
         mismatch: 0,
-        matching: 0,
+        on_match: 0,
     }
 }
 
 // Reads the head of a set.
 pub fn read_head(set: &[u8]) -> Head
-    ensures { λ r. ⌜ r ≡ reading.headOf (now (set .entry)) ⌝ }
+    ensures { λ r. ⌜ r ≡ readers.headOf (now (set .entry)) ⌝ }
 {
     if !reaches(set.len(), 0, 16) {
         return no_head();
     }
     let architecture = bpf::u32_at(set, 0);
     let mismatch = bpf::u32_at(set, 4);
-    let matching = bpf::u32_at(set, 8);
-    if !head_good(architecture, mismatch, matching) {
+    let on_match = bpf::u32_at(set, 8);
+    if !head_good(architecture, mismatch, on_match) {
         return no_head();
     }
     let entries = bpf::u32_at(set, 12);
@@ -390,12 +351,12 @@ pub fn read_head(set: &[u8]) -> Head
         },
         architecture: architecture,
         mismatch: mismatch,
-        matching: matching,
+        on_match: on_match,
     }
 }
 
 fn at_entry(c: Cursor) -> bool
-    ensures { λ r. ⌜ r ≡ reading.atEntry c ⌝ }
+    ensures { λ r. ⌜ r ≡ readers.atEntry c ⌝ }
 {
     if c.entries == 0 {
         return false;
@@ -407,7 +368,7 @@ fn at_entry(c: Cursor) -> bool
 }
 
 fn at_rule(c: Cursor) -> bool
-    ensures { λ r. ⌜ r ≡ reading.atRule c ⌝ }
+    ensures { λ r. ⌜ r ≡ readers.atRule c ⌝ }
 {
     if c.rules == 0 {
         return false;
@@ -416,7 +377,7 @@ fn at_rule(c: Cursor) -> bool
 }
 
 fn no_entry(c: Cursor, code: u32) -> Listed
-    ensures { λ r. ⌜ r ≡ reading.noEntry c code ⌝ }
+    ensures { λ r. ⌜ r ≡ readers.noEntry c code ⌝ }
 {
     let next = stopped(c, code);
     Listed {
@@ -427,7 +388,7 @@ fn no_entry(c: Cursor, code: u32) -> Listed
 
 // Reads the number that is listed next, once all rules of the last one are read.
 pub fn next_entry(set: &[u8], c: Cursor) -> Listed
-    ensures { λ r. ⌜ r ≡ reading.entryOf (now (set .entry)) c ⌝ }
+    ensures { λ r. ⌜ r ≡ readers.entryOf (now (set .entry)) c ⌝ }
 {
     if !at_entry(c) {
         return no_entry(c, 2);
@@ -452,7 +413,7 @@ pub fn next_entry(set: &[u8], c: Cursor) -> Listed
 
 // Goes on to the next rule, once all conditions of the last one are read.
 pub fn next_rule(set: &[u8], c: Cursor) -> Cursor
-    ensures { λ r. ⌜ r ≡ reading.ruleOf (now (set .entry)) c ⌝ }
+    ensures { λ r. ⌜ r ≡ readers.ruleOf (now (set .entry)) c ⌝ }
 {
     if !at_rule(c) {
         return stopped(c, 2);
@@ -471,7 +432,7 @@ pub fn next_rule(set: &[u8], c: Cursor) -> Cursor
 }
 
 fn no_condition(c: Cursor, code: u32) -> Compared
-    ensures { λ r. ⌜ r ≡ reading.noCondition c code ⌝ }
+    ensures { λ r. ⌜ r ≡ readers.noCondition c code ⌝ }
 {
     let next = stopped(c, code);
     Compared {
@@ -498,7 +459,7 @@ fn padded(set: &[u8], at: usize) -> bool
 
 // Reads the next condition of the open rule.
 pub fn next_condition(set: &[u8], c: Cursor) -> Compared
-    ensures { λ r. ⌜ r ≡ reading.comparedOf (now (set .entry)) c ⌝ }
+    ensures { λ r. ⌜ r ≡ readers.comparedOf (now (set .entry)) c ⌝ }
 {
     if c.conditions == 0 {
         return no_condition(c, 2);

@@ -1,6 +1,8 @@
 // The entry points that a host calls, exported under their C names. None asks anything of its caller: bad input gets its answer, and a
 // refusal writes nothing.
 ghost use mathlib.Core.Path.{_≡_};
+ghost use mathlib.Core.Bool.{true, not};
+ghost use mathlib.Core.Option.{some};
 ghost use Prim.Native.Nat.{_≤_};
 ghost use lib.Dec.{eqb};
 ghost use lib.ListN.{length};
@@ -9,8 +11,16 @@ ghost use Rattle.definitions.specs.Answer as answers;
 ghost use Rattle.definitions.specs.Compiled.{Compiled};
 ghost use Rattle.definitions.specs.Kernel.{acceptsBytes};
 ghost use Rattle.definitions.specs.Outcome.{outcomeOf};
+ghost use Rattle.definitions.specs.Parts.{withEntry, withRule, conditionPart};
+ghost use Rattle.definitions.specs.Writers.{Started, Added};
+ghost use Rattle.definitions.specs.Readers as readers;
 use definitions::Answer;
+use definitions::Compared;
+use definitions::Cursor;
+use definitions::Head;
+use definitions::Listed;
 use definitions::Outcome;
+use definitions::Writer;
 
 fn give(code: u32, count: u32) -> Answer
     ensures { λ r. ⌜ r ≡ answers.answer code count ⌝ }
@@ -89,4 +99,81 @@ pub extern "C" fn callfilter_run(filter: &[u8], call: &[u8]) -> Outcome
     ensures { λ r. ⌜ r ≡ outcomeOf (now (filter .entry)) (now (call .entry)) ⌝ }
 {
     machine::run(filter, call)
+}
+
+// Starts a set in a lent buffer: nothing is listed in it yet.
+#[no_mangle]
+pub extern "C" fn callfilter_start(
+    out: &mut [u8],
+    architecture: u32,
+    mismatch: u32,
+    on_match: u32,
+) -> Writer
+    ensures { λ r. ⌜ Started architecture mismatch «on_match» (now (out .entry)) (now (out .exit)) r ⌝ }
+{
+    builder::start(out, architecture, mismatch, on_match)
+}
+
+// Lists a number, which matches whatever its arguments are until a rule is begun for it.
+#[no_mangle]
+pub extern "C" fn callfilter_list(out: &mut [u8], writer: Writer, number: u32) -> Writer
+    ensures { λ r. ⌜ Added (some (withEntry number)) true 8 (now (out .entry)) (now (out .exit)) writer r ⌝ }
+{
+    builder::list(out, writer, number)
+}
+
+// Begins a rule for the number that was listed last.
+#[no_mangle]
+pub extern "C" fn callfilter_begin_rule(out: &mut [u8], writer: Writer) -> Writer
+    ensures { λ r. ⌜ Added (some withRule) (not (eqb (writer .entry) 0)) 4 (now (out .entry)) (now (out .exit)) writer r ⌝ }
+{
+    builder::begin_rule(out, writer)
+}
+
+// Adds a condition to the rule that was begun last.
+#[no_mangle]
+pub extern "C" fn callfilter_add_condition(
+    out: &mut [u8],
+    writer: Writer,
+    index: u8,
+    width: u8,
+    operator: u8,
+    value: u64,
+    mask: u64,
+) -> Writer
+    ensures { λ r. ⌜ Added (conditionPart index width operator value mask) (not (eqb (writer .rule) 0)) 24 (now (out .entry)) (now (out .exit)) writer r ⌝ }
+{
+    builder::add_condition(out, writer, index, width, operator, value, mask)
+}
+
+// Reads the head of a set.
+#[no_mangle]
+pub extern "C" fn callfilter_read_head(set: &[u8]) -> Head
+    ensures { λ r. ⌜ r ≡ readers.headOf (now (set .entry)) ⌝ }
+{
+    builder::read_head(set)
+}
+
+// Reads the number that is listed next, once all rules of the last one are read.
+#[no_mangle]
+pub extern "C" fn callfilter_next_entry(set: &[u8], cursor: Cursor) -> Listed
+    ensures { λ r. ⌜ r ≡ readers.entryOf (now (set .entry)) cursor ⌝ }
+{
+    builder::next_entry(set, cursor)
+}
+
+// Goes on to the next rule, once all conditions of the last one are read.
+#[no_mangle]
+pub extern "C" fn callfilter_next_rule(set: &[u8], cursor: Cursor) -> Cursor
+    ensures { λ r. ⌜ r ≡ readers.ruleOf (now (set .entry)) cursor ⌝ }
+{
+    builder::next_rule(set, cursor)
+}
+
+// Reads the next condition of the open rule.
+#[no_mangle]
+pub extern "C" fn callfilter_next_condition(set: &[u8], cursor: Cursor) -> Compared
+    ensures { λ r. ⌜ r ≡ readers.comparedOf (now (set .entry)) cursor ⌝ }
+{
+    builder::next_condition(set, cursor)
 }

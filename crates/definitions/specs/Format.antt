@@ -114,6 +114,11 @@ maskTaken Lt m = eqb m 0
 maskTaken MaskedEq m = true
 maskTaken Ne m = eqb m 0
 
+-- whether anything was read
+abbrev pub isThere : {A : Type 0} → Option A → Bool
+isThere none = false
+isThere (some a) = true
+
 -- what was read, and the place behind it
 pub record Read (A : Type 0) : Type 0 where
   pub value : A

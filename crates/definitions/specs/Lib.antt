@@ -7,3 +7,6 @@ pub mod Format
 pub mod Answer
 pub mod Compiled
 pub mod Outcome
+pub mod Parts
+pub mod Writers
+pub mod Readers

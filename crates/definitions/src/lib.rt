@@ -50,3 +50,51 @@ pub struct Outcome {
     pub action: u32,
     pub steps: u32,
 }
+
+// What stands between two calls that write a set: what became of the last one (0: it was taken), how many bytes are written, and the
+// places of the open entry and of the open rule (0: there is none).
+#[repr(C)]
+pub struct Writer {
+    pub code: u32,
+    pub end: u32,
+    pub entry: u32,
+    pub rule: u32,
+}
+
+// What stands between two calls that read a set: what became of the last one (0: it gave a part), the place of the next part, and how
+// many entries, rules of the open entry and conditions of the open rule are left.
+#[repr(C)]
+pub struct Cursor {
+    pub code: u32,
+    pub at: u32,
+    pub entries: u32,
+    pub rules: u32,
+    pub conditions: u32,
+}
+
+// What reading the head of a set gives.
+#[repr(C)]
+pub struct Head {
+    pub next: Cursor,
+    pub architecture: u32,
+    pub mismatch: u32,
+    pub on_match: u32,
+}
+
+// What reading an entry gives: the number that is listed.
+#[repr(C)]
+pub struct Listed {
+    pub next: Cursor,
+    pub number: u32,
+}
+
+// What reading a condition gives: its numbers, as the format has them.
+#[repr(C)]
+pub struct Compared {
+    pub next: Cursor,
+    pub index: u8,
+    pub width: u8,
+    pub operator: u8,
+    pub value: u64,
+    pub mask: u64,
+}

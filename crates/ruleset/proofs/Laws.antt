@@ -17,7 +17,7 @@ use Rattle.definitions.specs.declared.Width.the-variants.{Dword, Qword}
 use Rattle.definitions.specs.declared.Condition.{Condition}
 use Rattle.definitions.specs.Word.{numberAt, AreBytes}
 use Rattle.definitions.specs.RuleSet.{Architecture, x86-64, aarch64, Rule, Entry, RuleSet, isAction}
-use Rattle.definitions.specs.Format.{Read, then, check, times, architectureOf, widthOf, operatorOf, maskTaken, conditionAt, ruleAt, entryAt, read}
+use Rattle.definitions.specs.Format.{isThere, Read, then, check, times, architectureOf, widthOf, operatorOf, maskTaken, conditionAt, ruleAt, entryAt, read}
 use Rattle.definitions.specs.Answer.{all, hasConditions, indexTaken, ascending}
 use Rattle.definitions.specs.Emitted.{stepCode, stepDistance, conditionsCode}
 use Rattle.theorems.specs.Length.{conditionsLength, sum, ruleLength, bodyLength, entryLength, filterLength}
@@ -29,7 +29,7 @@ use Rattle.condition.proofs.Agree.{condition-agrees}
 use Rattle.rule.specs.At.{conditionsHere, rulesHere}
 use Rattle.rule.proofs.Agree.{conditions-agree, rules-agree}
 use Rattle.ruleset.specs.declared.Scan.{Scan}
-use Rattle.ruleset.specs.Scan.{isThere, widthKnown, architectureKnown, conditionTaken, notThere, Scanned, conditionsScan, ruleScan, ruleFrom, rulesScan, bodyOr, entryScan, entryFrom, ascendingFrom, entriesScan, headTaken, filterOr, setScan, setFrom}
+use Rattle.ruleset.specs.Scan.{widthKnown, architectureKnown, conditionTaken, notThere, Scanned, conditionsScan, ruleScan, ruleFrom, rulesScan, bodyOr, entryScan, entryFrom, ascendingFrom, entriesScan, headTaken, filterOr, setScan, setFrom}
 
 -- ---- whether a condition stands at a place
 

@@ -14,10 +14,6 @@ use Rattle.definitions.specs.Answer.{all, hasConditions, indexTaken, ascending,
 use Rattle.theorems.specs.Length.{conditionsLength, sum, ruleLength, entryLength, filterLength}
 use Rattle.ruleset.specs.declared.Scan.{Scan}
 
-abbrev pub isThere : {A : Type 0} → Option A → Bool
-isThere none = false
-isThere (some a) = true
-
 unfoldable pub widthKnown : ℕ → Bool
 widthKnown w = eqb w 4 || eqb w 8
 

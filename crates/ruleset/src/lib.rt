@@ -6,8 +6,8 @@ ghost use Prim.Native.Nat.{_+_, _≤_, _<_};
 ghost use lib.ListN.{length};
 ghost use Rattle.definitions.specs.Word.{numberAt};
 ghost use Rattle.definitions.specs.RuleSet.{isAction};
-ghost use Rattle.definitions.specs.Format.{times, conditionAt, ruleAt, entryAt, read};
-ghost use Rattle.ruleset.specs.Scan.{isThere, widthKnown, architectureKnown, notThere, Scanned, conditionsScan, ruleScan, rulesScan, bodyOr, entryScan, entriesScan, headTaken, filterOr, setScan};
+ghost use Rattle.definitions.specs.Format.{isThere, times, conditionAt, ruleAt, entryAt, read};
+ghost use Rattle.ruleset.specs.Scan.{widthKnown, architectureKnown, notThere, Scanned, conditionsScan, ruleScan, rulesScan, bodyOr, entryScan, entriesScan, headTaken, filterOr, setScan};
 use condition::condition_here;
 
 // What a walk over a part found: whether it is of the format, the place behind it, how many instructions it has, whether all its rules

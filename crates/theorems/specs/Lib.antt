@@ -1,3 +1,4 @@
 pub mod Shape
 pub mod Length
 pub mod Statements
+pub mod Written

@@ -1,6 +1,6 @@
 -- `at_entry` meets its contract: one test after the other.
 use borrow.Author.Tests.{eq-eqb, ne-eqb}
-use Rattle.builder.specs.Reading.{atEntry}
+use Rattle.definitions.specs.Readers.{atEntry}
 use Rattle.builder.proofs.at_entry.Statement.{statement}
 use Rattle.builder.proofs.at_entry.Tie as tie
 

@@ -1,6 +1,6 @@
 -- `at_rule` meets its contract: one test after the other.
 use borrow.Author.Tests.{eq-eqb, ne-eqb}
-use Rattle.builder.specs.Reading.{atRule}
+use Rattle.definitions.specs.Readers.{atRule}
 use Rattle.builder.proofs.at_rule.Statement.{statement}
 use Rattle.builder.proofs.at_rule.Tie as tie
 

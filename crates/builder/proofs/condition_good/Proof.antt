@@ -1,6 +1,6 @@
 -- `condition_good` meets its contract: one test after the other.
 use borrow.Author.Tests.{lt-leb, le-leb, eq-eqb, ne-eqb, not-true, not-false}
-use Rattle.builder.specs.Writing.{conditionGood}
+use Rattle.builder.specs.Bytes.{conditionGood}
 use borrow.Author.Needs.{needs}
 use Rattle.builder.proofs.condition_good.Statement.{statement}
 use Rattle.builder.proofs.condition_good.Tie as tie

@@ -1,7 +1,7 @@
 -- `head_good` meets its contract: one test after the other.
 use borrow.Author.Needs.{needs}
 use borrow.Author.Tests.{not-true, not-false}
-use Rattle.builder.specs.Writing.{headGood}
+use Rattle.definitions.specs.Writers.{headGood}
 use Rattle.builder.proofs.head_good.Statement.{statement}
 use Rattle.builder.proofs.head_good.Tie as tie
 

@@ -4,7 +4,7 @@ use denote.Ref.{now}
 use native.Mathlib.Omega.{arith}
 use borrow.Author.Tests.{not-true, not-false}
 use borrow.Author.Tests.{eq-eqb}
-use Rattle.builder.specs.Reading.{comparedOf}
+use Rattle.definitions.specs.Readers.{comparedOf}
 use Rattle.builder.proofs.Readers.{reaches-true, compared-short, compared-unpadded, compared-bad, compared-good}
 use borrow.Author.Needs.{needs}
 use Rattle.builder.proofs.next_condition.Statement.{statement}

@@ -2,7 +2,7 @@
 use mathlib.Core.Path.{sym, _∙_}
 use native.Mathlib.Omega.{arith}
 use borrow.Author.Tests.{not-true, not-false}
-use Rattle.builder.specs.Reading.{entryOf}
+use Rattle.definitions.specs.Readers.{entryOf}
 use Rattle.builder.proofs.Readers.{reaches-true, entry-left}
 use borrow.Author.Needs.{needs}
 use Rattle.builder.proofs.next_entry.Statement.{statement}

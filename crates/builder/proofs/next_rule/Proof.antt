@@ -2,7 +2,7 @@
 use mathlib.Core.Path.{sym, _∙_}
 use native.Mathlib.Omega.{arith}
 use borrow.Author.Tests.{not-true, not-false}
-use Rattle.builder.specs.Reading.{ruleOf}
+use Rattle.definitions.specs.Readers.{ruleOf}
 use Rattle.builder.proofs.Readers.{reaches-true, rule-left}
 use borrow.Author.Needs.{needs}
 use Rattle.builder.proofs.next_rule.Statement.{statement}

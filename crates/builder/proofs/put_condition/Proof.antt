@@ -1,7 +1,7 @@
 -- `put_condition` meets its contract: eight bytes, and two numbers behind them.
 use mathlib.Core.Path.{refl}
 use native.Mathlib.Omega.{arith}
-use Rattle.builder.specs.Writing.{conditionBytes}
+use Rattle.builder.specs.Bytes.{conditionBytes}
 use Rattle.builder.proofs.Laws.{put-long}
 use borrow.Author.Needs.{needs}
 use Rattle.builder.proofs.put_condition.Statement.{statement}

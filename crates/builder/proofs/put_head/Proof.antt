@@ -1,7 +1,7 @@
 -- `put_head` meets its contract: four numbers, one behind the other.
 use native.Mathlib.Omega.{arith}
+use Rattle.builder.specs.Bytes.{headBytes}
 use Rattle.builder.proofs.Laws.{put-four}
-use Rattle.builder.specs.Writing.{headBytes}
 use borrow.Author.Needs.{needs}
 use Rattle.builder.proofs.put_head.Statement.{statement}
 use Rattle.builder.proofs.put_head.Tie as tie

@@ -1,6 +1,6 @@
 -- `reaches` meets its contract: one test after the other.
 use borrow.Author.Tests.{lt-leb, le-leb}
-use Rattle.builder.specs.Reading.{reaches}
+use Rattle.definitions.specs.Readers.{reaches}
 use borrow.Author.Needs.{needs}
 use Rattle.builder.proofs.reaches.Statement.{statement}
 use Rattle.builder.proofs.reaches.Tie as tie

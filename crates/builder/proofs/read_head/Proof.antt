@@ -2,7 +2,7 @@
 use mathlib.Core.Path.{sym, _∙_}
 use native.Mathlib.Omega.{arith}
 use borrow.Author.Tests.{not-true, not-false}
-use Rattle.builder.specs.Reading.{headOf}
+use Rattle.definitions.specs.Readers.{headOf}
 use Rattle.builder.proofs.Readers.{reaches-true}
 use borrow.Author.Needs.{needs}
 use Rattle.builder.proofs.read_head.Statement.{statement}

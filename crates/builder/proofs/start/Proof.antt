@@ -2,7 +2,7 @@
 use mathlib.Core.Path.{_∙_, sym}
 use native.Mathlib.Omega.{arith}
 use borrow.Author.Tests.{not-true, not-false, lt-leb}
-use Rattle.builder.specs.Writing.{startCode}
+use Rattle.definitions.specs.Writers.{startCode}
 use Rattle.builder.proofs.Writers.{begin-refused, begun-set}
 use borrow.Author.Needs.{needs}
 use Rattle.builder.proofs.start.Statement.{statement}

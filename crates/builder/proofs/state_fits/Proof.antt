@@ -1,6 +1,6 @@
 -- `state_fits` meets its contract: one test after the other.
 use borrow.Author.Tests.{lt-leb, le-leb}
-use Rattle.builder.specs.Writing.{stateFits}
+use Rattle.definitions.specs.Writers.{stateFits}
 use borrow.Author.Needs.{needs}
 use Rattle.builder.proofs.state_fits.Statement.{statement}
 use Rattle.builder.proofs.state_fits.Tie as tie

@@ -1,6 +1,6 @@
 -- `verdict` meets its contract: one test after the other, in the order of the codes.
 use borrow.Author.Tests.{lt-leb, le-leb, not-true, not-false}
-use Rattle.builder.specs.Writing.{codeFor}
+use Rattle.definitions.specs.Writers.{codeFor}
 use borrow.Author.Needs.{needs}
 use Rattle.builder.proofs.verdict.Statement.{statement}
 use Rattle.builder.proofs.verdict.Tie as tie

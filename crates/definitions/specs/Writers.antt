@@ -1,22 +1,17 @@
--- What the writers promise: which calls are taken, and that what stands in the buffer then is the byte form of the rule set with that
--- part added.
+-- What the writers of rule sets promise: which calls are taken, that what stands in the buffer then is the byte form of the rule set with
+-- that part added, and what calls one after the other have made.
 use Prim.Native.Nat.{ℕ, _+_, _≤_}
 use mathlib.Core.Path.{_≡_}
-use mathlib.Core.Bool.{Bool, true, false, cond, not, _&&_, _||_}
+use mathlib.Core.Bool.{Bool, cond, not, _&&_}
 use mathlib.Core.List.{List, [], _∷_, _++_}
-use mathlib.Core.Option.{Option, none, some}
-use lib.Dec.{eqb, leb}
+use mathlib.Core.Option.{Option, some}
+use lib.Dec.{leb}
 use lib.ListN.{length, take, drop}
-use Rattle.definitions.specs.Word.{bytesOf}
+use Rattle.definitions.specs.declared.Writer.{Writer}
 use Rattle.definitions.specs.RuleSet.{Architecture, Rule, Entry, RuleSet, isAction}
-use Rattle.definitions.specs.Format.{joined, encodeRule, encodeEntry, architectureOf, widthOf}
+use Rattle.definitions.specs.Format.{joined, encodeRule, encodeEntry, architectureOf, isThere}
 use Rattle.definitions.specs.Compiled.{FormOf}
-use Rattle.builder.specs.declared.Writer.{Writer}
-use Rattle.builder.specs.Parts.{started}
-
-abbrev pub isThere : {A : Type 0} → Option A → Bool
-isThere none = false
-isThere (some a) = true
+use Rattle.definitions.specs.Parts.{started}
 
 -- ---- what a state says of a buffer
 
@@ -62,21 +57,6 @@ headGood a d m = isThere (architectureOf a) && (isAction d && isAction m)
 unfoldable pub startCode : ℕ → ℕ → ℕ → ℕ → ℕ
 startCode a d m size = cond (not (headGood a d m)) 1 (cond (leb 16 size) 0 3)
 
--- the head of a set with no entries
-unfoldable pub headBytes : ℕ → ℕ → ℕ → List ℕ
-headBytes a d m = bytesOf 4 a ++ (bytesOf 4 d ++ (bytesOf 4 m ++ bytesOf 4 0))
-
--- the tests of a condition, in the order of the code
-unfoldable pub conditionGood : ℕ → ℕ → ℕ → Bool
-conditionGood width operator mask = isThere (widthOf width) && (leb operator 6 && (eqb operator 5 || eqb mask 0))
-
--- a condition's bytes, from its numbers
-abbrev pub namesBytes : ℕ → ℕ → ℕ → List ℕ
-namesBytes index width operator = index ∷ width ∷ operator ∷ 0 ∷ 0 ∷ 0 ∷ 0 ∷ 0 ∷ []
-
-unfoldable pub conditionBytes : ℕ → ℕ → ℕ → ℕ → ℕ → List ℕ
-conditionBytes index width operator value mask = namesBytes index width operator ++ (bytesOf 8 value ++ bytesOf 8 mask)
-
 -- ---- what a call did
 
 -- a set was started in a buffer that held `before` and now holds `after`, and r was returned
@@ -94,3 +74,14 @@ pub record Added (part : Option (RuleSet → RuleSet)) (ordered : Bool) (more : 
   pub taken : r .code ≡ 0 → (add : RuleSet → RuleSet) → part ≡ some add → (rs : RuleSet) → Holds rs before w → Holds (add rs) after r
   -- what stands behind the set is as it was
   pub kept : drop (r .end) after ≡ drop (r .end) before
+
+-- ---- what calls made
+
+-- a buffer and a state that calls have made since `start`, and the rule set of the parts that were taken, in order
+pub data Made : RuleSet → List ℕ → Writer → Type 0 where
+  begun : (a d m : ℕ) (known : Architecture) (before after : List ℕ) (r : Writer) → Started a d m before after r → r .code ≡ 0
+      → architectureOf a ≡ some known → Made (started known d m) after r
+  taken : (part : Option (RuleSet → RuleSet)) (ordered : Bool) (more : ℕ) (add : RuleSet → RuleSet) (rs : RuleSet) (before after : List ℕ) (w r : Writer)
+      → Made rs before w → Added part ordered more before after w r → r .code ≡ 0 → part ≡ some add → Made (add rs) after r
+  refused : (part : Option (RuleSet → RuleSet)) (ordered : Bool) (more : ℕ) (rs : RuleSet) (before after : List ℕ) (w r : Writer)
+      → Made rs before w → Added part ordered more before after w r → (r .code ≡ 0 → ⊥) → Made rs after r

@@ -1,20 +1,21 @@
--- What the readers return, for any bytes and any cursor, and what a cursor says of the parts that are still to come.
+-- What the readers of rule sets promise: what they return, for any bytes and any cursor, what a cursor says of the parts that are still to
+-- come, and what it is that a part was given.
 use Prim.Native.Nat.{ℕ, _+_, _-_, _≤_}
 use mathlib.Core.Path.{_≡_}
 use mathlib.Core.Bool.{Bool, cond, not, _&&_}
-use mathlib.Core.List.{List, _++_}
+use mathlib.Core.List.{List, [], _++_}
 use mathlib.Core.Option.{Option, none, some}
 use lib.Dec.{eqb, leb}
 use lib.ListN.{length, drop}
 use Rattle.definitions.specs.declared.Condition.{Condition}
 use Rattle.definitions.specs.Word.{numberAt}
-use Rattle.definitions.specs.RuleSet.{Rule, Entry}
-use Rattle.definitions.specs.Format.{widthNumber, operatorNumber, joined, encodeCondition, encodeRule, encodeEntry, Each, ConditionInRange, EntryInRange, Read, conditionAt}
-use Rattle.builder.specs.declared.Cursor.{Cursor}
-use Rattle.builder.specs.declared.Head.{Head}
-use Rattle.builder.specs.declared.Listed.{Listed}
-use Rattle.builder.specs.declared.Compared.{Compared}
-use Rattle.builder.specs.Writing.{headGood}
+use Rattle.definitions.specs.RuleSet.{Rule, Entry, RuleSet}
+use Rattle.definitions.specs.Format.{architectureNumber, widthNumber, operatorNumber, joined, encodeCondition, encodeRule, encodeEntry, Each, ConditionInRange, EntryInRange, Read, conditionAt}
+use Rattle.definitions.specs.declared.Cursor.{Cursor}
+use Rattle.definitions.specs.declared.Head.{Head}
+use Rattle.definitions.specs.declared.Listed.{Listed}
+use Rattle.definitions.specs.declared.Compared.{Compared}
+use Rattle.definitions.specs.Writers.{headGood}
 
 -- so many bytes are there, in a set that is not too long
 unfoldable pub reaches : ℕ → ℕ → ℕ → Bool
@@ -26,7 +27,7 @@ abbrev pub stopped : Cursor → ℕ → Cursor
 stopped c code = record { code = code; at = c .at; entries = c .entries; rules = c .rules; conditions = c .conditions }
 
 abbrev pub noHead : Head
-noHead = record { next = record { code = 1; at = 0; entries = 0; rules = 0; conditions = 0 }; architecture = 0; mismatch = 0; matching = 0 }
+noHead = record { next = record { code = 1; at = 0; entries = 0; rules = 0; conditions = 0 }; architecture = 0; mismatch = 0; «on_match» = 0 }
 
 abbrev pub noEntry : Cursor → ℕ → Listed
 noEntry c code = record { next = stopped c code; number = 0 }
@@ -42,7 +43,7 @@ headOf s =
       next = record { code = 0; at = 16; entries = numberAt 4 s 12; rules = 0; conditions = 0 };
       architecture = numberAt 4 s 0;
       mismatch = numberAt 4 s 4;
-      matching = numberAt 4 s 8;
+      «on_match» = numberAt 4 s 8;
     })
     noHead)
     noHead
@@ -103,3 +104,30 @@ pub record Left (s : List ℕ) (c : Cursor) (qs : List Condition) (rs : List Rul
   pub rangedConditions : Each ConditionInRange qs
   pub rangedRules : Each (Each ConditionInRange) rs
   pub rangedEntries : Each EntryInRange es
+
+-- ---- a part was given, and the cursor stands before the others
+
+pub record HeadGiven (rs : RuleSet) (s : List ℕ) (r : Head) : Type 0 where
+  pub code : r .next .code ≡ 0
+  pub architecture : r .architecture ≡ architectureNumber (rs .architecture)
+  pub mismatch : r .mismatch ≡ rs .mismatch
+  pub onMatch : r .«on_match» ≡ rs .onMatch
+  pub left : Left s (r .next) [] [] (rs .entries)
+
+pub record EntryGiven (e : Entry) (es : List Entry) (s : List ℕ) (r : Listed) : Type 0 where
+  pub code : r .next .code ≡ 0
+  pub number : r .number ≡ e .number
+  pub left : Left s (r .next) [] (e .rules) es
+
+pub record RuleGiven (r : Rule) (rs : List Rule) (es : List Entry) (s : List ℕ) (c : Cursor) : Type 0 where
+  pub code : c .code ≡ 0
+  pub left : Left s c r rs es
+
+pub record ConditionGiven (q : Condition) (qs : List Condition) (rs : List Rule) (es : List Entry) (s : List ℕ) (r : Compared) : Type 0 where
+  pub code : r .next .code ≡ 0
+  pub index : r .index ≡ q .index
+  pub width : r .width ≡ widthNumber (q .width)
+  pub operator : r .operator ≡ operatorNumber (q .operator)
+  pub value : r .value ≡ q .value
+  pub mask : r .mask ≡ q .mask
+  pub left : Left s (r .next) qs rs es

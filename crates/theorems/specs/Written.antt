@@ -1,0 +1,59 @@
+-- The theorems of rule sets that are written and read part by part, as statements. Their proofs are in crates/builder/proofs, beside the
+-- writers and readers: Made.antt and Back.antt.
+use Prim.Native.Nat.{ℕ}
+use mathlib.Core.Path.{_≡_}
+use mathlib.Core.Bool.{true}
+use mathlib.Core.List.{List, [], _∷_}
+use mathlib.Core.Option.{some}
+use lib.ListN.{length, take}
+use Rattle.definitions.specs.declared.Condition.{Condition}
+use Rattle.definitions.specs.declared.Writer.{Writer}
+use Rattle.definitions.specs.declared.Cursor.{Cursor}
+use Rattle.definitions.specs.RuleSet.{Rule, Entry, RuleSet}
+use Rattle.definitions.specs.Format.{InRange, encode, read}
+use Rattle.definitions.specs.Answer.{answerOf}
+use Rattle.definitions.specs.Parts.{lastRules}
+use Rattle.definitions.specs.Writers.{stateFits, Made}
+use Rattle.definitions.specs.Readers.{headOf, entryOf, ruleOf, comparedOf, Left, HeadGiven, EntryGiven, RuleGiven, ConditionGiven}
+
+-- ---- of what calls of the writers made
+
+-- the bytes are the byte form of the parts
+abbrev pub Spelled : Type 0
+Spelled = (rs : RuleSet) (out : List ℕ) (w : Writer) → Made rs out w → InRange rs × (encode rs ≡ take (w .end) out)
+
+-- they read back as the parts
+abbrev pub ReadBack : Type 0
+ReadBack = (rs : RuleSet) (out : List ℕ) (w : Writer) → Made rs out w → read (take (w .end) out) ≡ some rs
+
+-- compiling them never says that they are not of the format
+abbrev pub OfTheFormat : Type 0
+OfTheFormat = (rs : RuleSet) (out : List ℕ) (w : Writer) → Made rs out w → (room : ℕ) → answerOf (take (w .end) out) room .code ≡ 1 → ⊥
+
+-- a state that calls have made fits its buffer, says that no number is listed only where none is, and that no rule is open only where
+-- the number listed last has none
+abbrev pub Fitting : Type 0
+Fitting =
+    (rs : RuleSet) (out : List ℕ) (w : Writer) → Made rs out w
+    → (stateFits w ≡ true) × (w .entry ≡ 0 → rs .entries ≡ []) × (w .rule ≡ 0 → lastRules (rs .entries) ≡ [])
+
+-- ---- of reading a rule set's bytes: its parts come back, in order. From the head on, each reader gives the part that is next, and
+-- leaves a cursor that stands before the others.
+
+abbrev pub HeadBack : Type 0
+HeadBack = (rs : RuleSet) → InRange rs → HeadGiven rs (encode rs) (headOf (encode rs))
+
+abbrev pub EntryBack : Type 0
+EntryBack = (s : List ℕ) (c : Cursor) (e : Entry) (es : List Entry) → Left s c [] [] (e ∷ es) → EntryGiven e es s (entryOf s c)
+
+abbrev pub RuleBack : Type 0
+RuleBack = (s : List ℕ) (c : Cursor) (r : Rule) (rs : List Rule) (es : List Entry) → Left s c [] (r ∷ rs) es → RuleGiven r rs es s (ruleOf s c)
+
+abbrev pub ConditionBack : Type 0
+ConditionBack =
+    (s : List ℕ) (c : Cursor) (q : Condition) (qs : List Condition) (rs : List Rule) (es : List Entry)
+    → Left s c (q ∷ qs) rs es → ConditionGiven q qs rs es s (comparedOf s c)
+
+-- where nothing is left, the cursor stands behind the last byte
+abbrev pub AllRead : Type 0
+AllRead = (s : List ℕ) (c : Cursor) → Left s c [] [] [] → c .at ≡ length s
