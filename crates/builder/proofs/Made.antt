@@ -1,5 +1,5 @@
 -- Calls of the writers one after the other: the theorems of crates/theorems/specs/Written.antt.
-use mathlib.Core.Path.{_≡_, refl, ap, _∙_}
+use mathlib.Core.Path.{_≡_, refl, ap, sym, _∙_}
 use mathlib.Core.Bool.{Bool, true, false, cond, not}
 use mathlib.Core.List.{List, [], _∷_, _++_}
 use Prim.Native.Nat.{ℕ, _+_, _*_, _≤_}
@@ -15,10 +15,11 @@ use Rattle.definitions.specs.Format.{joined, encodeEntry, encode}
 use Rattle.definitions.specs.Answer.{ascending, rulesFilled, indicesTaken, tooMany, answer, answerWith, answerOf}
 use Rattle.definitions.specs.Parts.{lastRules}
 use Rattle.definitions.specs.Writers.{RuleAt, noRule, lastRule, EntryAt, noEntry, lastEntry, Holds, stateFits, Made, begun, taken, refused}
-use Rattle.theorems.specs.Written.{Spelled, ReadBack, OfTheFormat, Fitting}
+use Rattle.theorems.specs.Written.{Spelled, ReadBack, OfTheFormat, Fitting, NeverStarted}
 use Rattle.theorems.proofs.Words.{length-bytes}
 use Rattle.theorems.proofs.Tests.{true-both}
 use Rattle.theorems.proofs.RoundTrip.{written-read}
+use Rattle.builder.proofs.Codes.{code-zero}
 use Rattle.builder.proofs.Sets.{encode-entries, encode-rules, encode-conditions}
 
 -- a refusal's state says of a buffer what the state before it said
@@ -111,3 +112,8 @@ pub fits : Fitting
 fits rs out w made =
     let h = made-holds made in
     (held-fits rs out w h (h .places), none-listed rs out w h (h .places), none-begun rs out w h (h .places))
+
+pub never-started : NeverStarted
+never-started part ordered more before after w r a zero =
+    let bad : r .code ≡ 0 → ⊥ = λ z. let t = code-zero (sym (a .code) ∙ z) in omega (arith, t .head) in
+    (bad, ap (λ (x : Writer). x .end) (a .refused bad .1) ∙ zero)

@@ -239,7 +239,7 @@ added {before} {after} {w} index width operator value mask i v m e put =
 
 pub begin-refused : {a d m : ℕ} {before : List ℕ} (code : ℕ) → (code ≡ 0 → ⊥) → code ≡ startCode a d m (length before)
     → Started a d m before before (record { code = code; end = 0; entry = 0; rule = 0 })
-begin-refused code bad e = record { code = e; refused = λ h. refl; taken = λ z. absurd (bad z); kept = refl }
+begin-refused code bad e = record { code = e; refused = λ h. (refl, refl); taken = λ z. absurd (bad z); kept = refl }
 
 length-head : (a d m : ℕ) → length (headBytes a d m) ≡ 16
 unfolding headBytes

@@ -62,7 +62,7 @@ startCode a d m size = cond (not (headGood a d m)) 1 (cond (leb 16 size) 0 3)
 -- a set was started in a buffer that held `before` and now holds `after`, and r was returned
 pub record Started (a d m : ℕ) (before after : List ℕ) (r : Writer) : Type 0 where
   pub code : r .code ≡ startCode a d m (length before)
-  pub refused : (r .code ≡ 0 → ⊥) → after ≡ before
+  pub refused : (r .code ≡ 0 → ⊥) → (after ≡ before) × (r ≡ record { code = r .code; end = 0; entry = 0; rule = 0 })
   pub taken : r .code ≡ 0 → (known : Architecture) → architectureOf a ≡ some known → Holds (started known d m) after r
   -- what stands behind the head is as it was
   pub kept : drop (r .end) after ≡ drop (r .end) before

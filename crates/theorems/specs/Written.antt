@@ -2,9 +2,9 @@
 -- writers and readers: Made.antt and Back.antt.
 use Prim.Native.Nat.{ℕ}
 use mathlib.Core.Path.{_≡_}
-use mathlib.Core.Bool.{true}
+use mathlib.Core.Bool.{Bool, true}
 use mathlib.Core.List.{List, [], _∷_}
-use mathlib.Core.Option.{some}
+use mathlib.Core.Option.{Option, some}
 use lib.ListN.{length, take}
 use Rattle.definitions.specs.declared.Condition.{Condition}
 use Rattle.definitions.specs.declared.Writer.{Writer}
@@ -13,7 +13,7 @@ use Rattle.definitions.specs.RuleSet.{Rule, Entry, RuleSet}
 use Rattle.definitions.specs.Format.{InRange, encode, read}
 use Rattle.definitions.specs.Answer.{answerOf}
 use Rattle.definitions.specs.Parts.{lastRules}
-use Rattle.definitions.specs.Writers.{stateFits, Made}
+use Rattle.definitions.specs.Writers.{stateFits, Added, Made}
 use Rattle.definitions.specs.Readers.{headOf, entryOf, ruleOf, comparedOf, Left, HeadGiven, EntryGiven, RuleGiven, ConditionGiven}
 
 -- ---- of what calls of the writers made
@@ -36,6 +36,12 @@ abbrev pub Fitting : Type 0
 Fitting =
     (rs : RuleSet) (out : List ℕ) (w : Writer) → Made rs out w
     → (stateFits w ≡ true) × (w .entry ≡ 0 → rs .entries ≡ []) × (w .rule ≡ 0 → lastRules (rs .entries) ≡ [])
+
+-- a state without a set, as a start that was refused returns it, is refused by every writer, and is such a state then
+abbrev pub NeverStarted : Type 0
+NeverStarted =
+    (part : Option (RuleSet → RuleSet)) (ordered : Bool) (more : ℕ) (before after : List ℕ) (w r : Writer)
+    → Added part ordered more before after w r → w .end ≡ 0 → (r .code ≡ 0 → ⊥) × (r .end ≡ 0)
 
 -- ---- of reading a rule set's bytes: its parts come back, in order. From the head on, each reader gives the part that is next, and
 -- leaves a cursor that stands before the others.
