@@ -6,7 +6,7 @@ use Prim.Native.Nat.{ℕ, _+_, _*_, _≤_}
 use native.Mathlib.Omega.{arith}
 use lib.Dec.{eqb, leb, ltb}
 use lib.ListN.{length, length-append, length-take}
-use borrow.Author.Tests.{le-leb}
+use borrow.Author.Tests.{le-leb, ne-eqb}
 use Rattle.definitions.specs.declared.Answer.{Answer}
 use Rattle.definitions.specs.declared.Writer.{Writer}
 use Rattle.definitions.specs.RuleSet.{Entry, RuleSet}
@@ -15,7 +15,7 @@ use Rattle.definitions.specs.Format.{joined, encodeEntry, encode}
 use Rattle.definitions.specs.Answer.{ascending, rulesFilled, indicesTaken, tooMany, answer, answerWith, answerOf}
 use Rattle.definitions.specs.Parts.{lastRules}
 use Rattle.definitions.specs.Writers.{RuleAt, noRule, lastRule, EntryAt, noEntry, lastEntry, Holds, stateFits, Made, begun, taken, refused}
-use Rattle.theorems.specs.Written.{Spelled, ReadBack, OfTheFormat, Fitting, NeverStarted}
+use Rattle.theorems.specs.Written.{Spelled, ReadBack, OfTheFormat, Compiling, Fitting, NeverStarted}
 use Rattle.theorems.proofs.Words.{length-bytes}
 use Rattle.theorems.proofs.Tests.{true-both}
 use Rattle.theorems.proofs.RoundTrip.{written-read}
@@ -64,6 +64,10 @@ never-one n rs room e =
 pub of-the-format : OfTheFormat
 unfolding answerOf
 of-the-format rs out w made room e = never-one (length (emitted rs)) rs room (rw (read-back rs out w made) at e)
+
+pub compiling : Compiling
+unfolding answerOf answerWith
+compiling rs out w made up differ filled indexed room = rw (read-back rs out w made, up, ne-eqb (rs .mismatch) (rs .onMatch) differ, filled, indexed)
 
 -- ---- the state fits
 
