@@ -12,7 +12,7 @@ use Rattle.definitions.specs.declared.Writer.{Writer}
 use Rattle.definitions.specs.RuleSet.{Entry, RuleSet}
 use Rattle.definitions.specs.Emitted.{emitted}
 use Rattle.definitions.specs.Format.{joined, encodeEntry, encode}
-use Rattle.definitions.specs.Answer.{ascending, rulesFilled, indicesTaken, tooMany, answer, answerWith, answerOf}
+use Rattle.definitions.specs.Answer.{ascending, rulesFilled, indicesTaken, tooMany, answer, refusal, answerWith, answerOf}
 use Rattle.definitions.specs.Parts.{lastRules}
 use Rattle.definitions.specs.Writers.{RuleAt, noRule, lastRule, EntryAt, noEntry, lastEntry, Holds, stateFits, Made, begun, taken, refused}
 use Rattle.theorems.specs.Written.{Spelled, ReadBack, OfTheFormat, Compiling, Fitting, NeverStarted}
@@ -45,28 +45,35 @@ spelled rs out w made = let form = made-holds made .form in (form .ranged, form 
 pub read-back : ReadBack
 read-back rs out w made = let form = made-holds made .form in rw (← form .spelled) (written-read rs (form .ranged))
 
--- a test that led to another answer than 1
-not-one : (t : Bool) (k n : ℕ) (rest : Answer) → (k ≡ 1 → ⊥) → (cond t (answer k n) rest) .code ≡ 1 → rest .code ≡ 1
-not-one true k n rest h e = absurd (h e)
-not-one false k n rest h e = e
+-- whichever way a test goes, the number is not 1
+not-one : {A : Type 0} (f : A → ℕ) (t : Bool) (a b : A) → (f a ≡ 1 → ⊥) → (f b ≡ 1 → ⊥) → f (cond t a b) ≡ 1 → ⊥
+not-one f true a b p q = p
+not-one f false a b p q = q
+
+refusal-not-one : (rs : RuleSet) → refusal rs ≡ 1 → ⊥
+unfolding refusal
+refusal-not-one rs =
+    not-one (λ n. n) (not (ascending (rs .entries))) 2 _ (λ e. omega arith)
+    (not-one (λ n. n) (eqb (rs .mismatch) (rs .onMatch)) 3 _ (λ e. omega arith)
+    (not-one (λ n. n) (not (rulesFilled rs)) 4 _ (λ e. omega arith)
+    (not-one (λ n. n) (not (indicesTaken rs)) 5 0 (λ e. omega arith) (λ e. omega arith))))
+
+abbrev code : Answer → ℕ
+code r = r .code
 
 never-one : (n : ℕ) (rs : RuleSet) (room : ℕ) → answerWith n rs room .code ≡ 1 → ⊥
 unfolding answerWith
-never-one n rs room e =
-    let w2 = not-one (not (ascending (rs .entries))) 2 0 _ (λ q. omega arith) e in
-    let w3 = not-one (eqb (rs .mismatch) (rs .onMatch)) 3 0 _ (λ q. omega arith) w2 in
-    let w4 = not-one (not (rulesFilled rs)) 4 0 _ (λ q. omega arith) w3 in
-    let w5 = not-one (not (indicesTaken rs)) 5 0 _ (λ q. omega arith) w4 in
-    let w6 = not-one (leb tooMany n) 6 n _ (λ q. omega arith) w5 in
-    let w7 = not-one (ltb room (8 * n)) 7 n (answer 0 n) (λ q. omega arith) w6 in
-    omega arith
+never-one n rs room =
+    not-one code (not (eqb (refusal rs) 0)) (answer (refusal rs) 0) _ (refusal-not-one rs)
+    (not-one code (leb tooMany n) (answer 6 n) _ (λ e. omega arith)
+    (not-one code (ltb room (8 * n)) (answer 7 n) (answer 0 n) (λ e. omega arith) (λ e. omega arith)))
 
 pub of-the-format : OfTheFormat
 unfolding answerOf
 of-the-format rs out w made room e = never-one (length (emitted rs)) rs room (rw (read-back rs out w made) at e)
 
 pub compiling : Compiling
-unfolding answerOf answerWith
+unfolding answerOf answerWith refusal
 compiling rs out w made up differ filled indexed room = rw (read-back rs out w made, up, ne-eqb (rs .mismatch) (rs .onMatch) differ, filled, indexed)
 
 -- ---- the state fits

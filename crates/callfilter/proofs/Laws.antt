@@ -1,12 +1,10 @@
--- Laws that join the walk over a set's bytes with the answer's definition.
-use mathlib.Core.Path.{_≡_, refl, ap, sym, _∙_}
-use mathlib.Core.Bool.{Bool, true, false, cond, not, _&&_}
+-- Laws that join what is said of a set with the answer's definition.
+use mathlib.Core.Path.{_≡_, refl, _∙_}
 use mathlib.Core.List.{List}
 use mathlib.Core.Option.{Option, none, some}
 use Prim.Native.Nat.{ℕ, _*_, _≤_}
 use native.Mathlib.Nat.{zero-add}
 use native.Mathlib.Omega.{arith}
-use lib.Dec.{eqb}
 use lib.ListN.{length}
 use Rattle.definitions.specs.declared.Answer.{Answer}
 use Rattle.definitions.specs.Word.{numberAt, AreBytes}
@@ -23,32 +21,17 @@ use Rattle.theorems.proofs.Compiled.{done}
 use Rattle.bpf.specs.Place.{place}
 use Rattle.filter.specs.At.{entriesPast, setHere}
 use Rattle.filter.proofs.Agree.{read-agrees}
-use Rattle.ruleset.specs.declared.Scan.{Scan}
-use Rattle.ruleset.specs.Scan.{setScan}
+use Rattle.ruleset.specs.Scan.{judged}
 use Rattle.callfilter.specs.Verdict.{answerFrom}
 
-by : (s : List ℕ) (x : Option RuleSet) → read s ≡ x → setScan (length s) x .ok ≡ true → 16 ≤ length s
-unfolding setScan
-by s none e o = absurd (let z : _≡_ {A = ℕ} 0 1 = cc in omega arith)
-by s (some rs) e o = read-agrees s rs e .1
+by-answer : (room : ℕ) (x : Option RuleSet) → answerRead x room ≡ answerFrom (judged x) room
+unfolding answerFrom judged answerWith
+by-answer room none = refl
+by-answer room (some rs) = rw (← length-emitted rs)
 
-pub there-long : (s : List ℕ) → setScan (length s) (read s) .ok ≡ true → 16 ≤ length s
-there-long s = by s (read s) refl
-
-by-answer : (s : List ℕ) (room : ℕ) (x : Option RuleSet) → read s ≡ x
-    → answerRead x room ≡ answerFrom (setScan (length s) x) (eqb (numberAt 4 s 4) (numberAt 4 s 8)) room
-unfolding answerFrom setScan answerWith setHere
-by-answer s room none e = refl
-by-answer s room (some rs) e =
-    let same = read-agrees s rs e .0 in
-    let d = ap (λ (x : RuleSet). x .mismatch) same in
-    let m = ap (λ (x : RuleSet). x .onMatch) same in
-    rw (← length-emitted rs, ← d, ← m)
-
-pub answer-from : (s : List ℕ) (room : ℕ)
-    → answerOf s room ≡ answerFrom (setScan (length s) (read s)) (eqb (numberAt 4 s 4) (numberAt 4 s 8)) room
+pub answer-from : (s : List ℕ) (room : ℕ) → answerOf s room ≡ answerFrom (judged (read s)) room
 unfolding answerOf
-answer-from s room = by-answer s room (read s) refl
+answer-from s room = by-answer room (read s)
 
 -- ---- the filter may be written, and is then the compiled one
 

@@ -1,18 +1,14 @@
--- The answer, from what the walk over a set found.
+-- The answer, from what is said of a set.
 use Prim.Native.Nat.{ℕ, _*_}
-use mathlib.Core.Bool.{Bool, cond, not}
-use lib.Dec.{leb, ltb}
+use mathlib.Core.Bool.{cond, not}
+use lib.Dec.{eqb, leb, ltb}
 use Rattle.definitions.specs.declared.Answer.{Answer}
 use Rattle.definitions.specs.Answer.{answer, tooMany}
-use Rattle.ruleset.specs.declared.Scan.{Scan}
+use Rattle.ruleset.specs.declared.Judged.{Judged}
 
-unfoldable pub answerFrom : Scan → Bool → ℕ → Answer
-answerFrom c same room =
-    cond (not (c .ok)) (answer 1 0)
-    (cond (not (c .ascending)) (answer 2 0)
-    (cond same (answer 3 0)
-    (cond (not (c .filled)) (answer 4 0)
-    (cond (not (c .indexed)) (answer 5 0)
-    (cond (leb tooMany (c .count)) (answer 6 (c .count))
-    (cond (ltb room (8 * c .count)) (answer 7 (c .count))
-    (answer 0 (c .count))))))))
+unfoldable pub answerFrom : Judged → ℕ → Answer
+answerFrom j room =
+    cond (not (eqb (j .code) 0)) (answer (j .code) 0)
+    (cond (leb tooMany (j .count)) (answer 6 (j .count))
+    (cond (ltb room (8 * j .count)) (answer 7 (j .count))
+    (answer 0 (j .count))))

@@ -3,10 +3,7 @@
 ghost use mathlib.Core.Path.{_≡_};
 ghost use mathlib.Core.Bool.{true, not};
 ghost use mathlib.Core.Option.{some};
-ghost use Prim.Native.Nat.{_≤_};
 ghost use lib.Dec.{eqb};
-ghost use lib.ListN.{length};
-ghost use Rattle.definitions.specs.Word.{numberAt};
 ghost use Rattle.definitions.specs.Answer as answers;
 ghost use Rattle.definitions.specs.Compiled.{Compiled};
 ghost use Rattle.definitions.specs.Kernel.{acceptsBytes};
@@ -31,35 +28,14 @@ fn give(code: u32, count: u32) -> Answer
     }
 }
 
-// Whether a set's two actions are one.
-fn same_actions(set: &[u8]) -> bool
-    requires { ⌜ 16 ≤ length (now set) ⌝ }
-    ensures { λ r. ⌜ r ≡ eqb (numberAt 4 (now (set .entry)) 4) (numberAt 4 (now (set .entry)) 8) ⌝ }
-{
-    let mismatch = bpf::u32_at(set, 4);
-    let on_match = bpf::u32_at(set, 8);
-    mismatch == on_match
-}
-
 // The answer for a set and a room.
 fn verdict(set: &[u8], room: usize) -> Answer
     ensures { λ r. ⌜ r ≡ answers.answerOf (now (set .entry)) room ⌝ }
 {
-    let found = ruleset::scan_set(set);
-    if !found.ok {
-        return give(1, 0);
-    }
-    if !found.ascending {
-        return give(2, 0);
-    }
-    if same_actions(set) {
-        return give(3, 0);
-    }
-    if !found.filled {
-        return give(4, 0);
-    }
-    if !found.indexed {
-        return give(5, 0);
+    let found = ruleset::judge(set);
+    let code = found.code;
+    if code != 0 {
+        return give(code, 0);
     }
     let size = found.count;
     let count = size as u32;

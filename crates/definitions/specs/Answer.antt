@@ -54,16 +54,22 @@ tooMany = 4096
 abbrev pub answer : ℕ → ℕ → Answer
 answer code count = record { code = code; count = count }
 
+-- what is refused in a rule set, whatever its filter's length: the smallest number from 2 to 5 that applies, or 0
+unfoldable pub refusal : RuleSet → ℕ
+refusal rs =
+    cond (not (ascending (rs .entries))) 2
+    (cond (eqb (rs .mismatch) (rs .onMatch)) 3
+    (cond (not (rulesFilled rs)) 4
+    (cond (not (indicesTaken rs)) 5
+    0)))
+
 -- a rule set whose filter has n instructions
 unfoldable pub answerWith : ℕ → RuleSet → ℕ → Answer
 answerWith n rs room =
-    cond (not (ascending (rs .entries))) (answer 2 0)
-    (cond (eqb (rs .mismatch) (rs .onMatch)) (answer 3 0)
-    (cond (not (rulesFilled rs)) (answer 4 0)
-    (cond (not (indicesTaken rs)) (answer 5 0)
+    cond (not (eqb (refusal rs) 0)) (answer (refusal rs) 0)
     (cond (leb tooMany n) (answer 6 n)
     (cond (ltb room (8 * n)) (answer 7 n)
-    (answer 0 n))))))
+    (answer 0 n)))
 
 abbrev pub answerRead : Option RuleSet → ℕ → Answer
 answerRead none room = answer 1 0

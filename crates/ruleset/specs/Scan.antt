@@ -10,9 +10,10 @@ use lib.ListN.{length, getD}
 use Rattle.definitions.specs.Word.{numberAt}
 use Rattle.definitions.specs.RuleSet.{Rule, Entry, RuleSet, isAction}
 use Rattle.definitions.specs.Format.{Read}
-use Rattle.definitions.specs.Answer.{all, hasConditions, indexTaken, ascending, rulesFilled, indicesTaken}
+use Rattle.definitions.specs.Answer.{all, hasConditions, indexTaken, ascending, rulesFilled, indicesTaken, refusal}
 use Rattle.theorems.specs.Length.{conditionsLength, sum, ruleLength, entryLength, filterLength}
 use Rattle.ruleset.specs.declared.Scan.{Scan}
+use Rattle.ruleset.specs.declared.Judged.{Judged}
 
 unfoldable pub widthKnown : ℕ → Bool
 widthKnown w = eqb w 4 || eqb w 8
@@ -145,3 +146,17 @@ setFrom size n head c =
     cond (leb size 1048576) (cond (leb 16 size) (cond head (cond (c .ok) (cond (eqb (c .past) size)
     (record { ok = true; past = size; count = filterOr n (c .count); filled = c .filled; indexed = c .indexed; ascending = c .ascending })
     notThere) notThere) notThere) notThere) notThere
+
+-- what is refused, from the scan of the whole and whether both actions are one
+unfoldable pub refusalFrom : Scan → Bool → ℕ
+refusalFrom c same =
+    cond (not (c .ascending)) 2
+    (cond same 3
+    (cond (not (c .filled)) 4
+    (cond (not (c .indexed)) 5
+    0)))
+
+-- what is said of a set, by the rule set that is read from it
+unfoldable pub judged : Option RuleSet → Judged
+judged none = record { code = 1; count = 0 }
+judged (some rs) = record { code = refusal rs; count = filterLength (rs .entries) }

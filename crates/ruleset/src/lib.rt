@@ -3,11 +3,12 @@
 ghost use mathlib.Core.Path.{_≡_};
 ghost use mathlib.Core.Bool.{true, _&&_};
 ghost use Prim.Native.Nat.{_+_, _≤_, _<_};
+ghost use lib.Dec.{eqb};
 ghost use lib.ListN.{length};
 ghost use Rattle.definitions.specs.Word.{numberAt};
 ghost use Rattle.definitions.specs.RuleSet.{isAction};
 ghost use Rattle.definitions.specs.Format.{isThere, times, conditionAt, ruleAt, entryAt, read};
-ghost use Rattle.ruleset.specs.Scan.{widthKnown, architectureKnown, notThere, Scanned, conditionsScan, ruleScan, rulesScan, bodyOr, entryScan, entriesScan, headTaken, filterOr, setScan};
+ghost use Rattle.ruleset.specs.Scan.{widthKnown, architectureKnown, notThere, Scanned, conditionsScan, ruleScan, rulesScan, bodyOr, entryScan, entriesScan, headTaken, filterOr, setScan, refusalFrom, judged};
 use condition::condition_here;
 
 // What a walk over a part found: whether it is of the format, the place behind it, how many instructions it has, whether all its rules
@@ -301,7 +302,7 @@ fn filter_length(n: u32, entries: usize) -> usize
 }
 
 // The whole walk.
-pub fn scan_set(s: &[u8]) -> Scan
+fn scan_set(s: &[u8]) -> Scan
     ensures { λ r. ⌜ (r ≡ setScan (length (now (s .entry))) (read (now (s .entry)))) × (r .count ≤ 1048581) ⌝ }
 {
     let size = s.len();
@@ -329,5 +330,55 @@ pub fn scan_set(s: &[u8]) -> Scan
         filled: entries.filled,
         indexed: entries.indexed,
         ascending: entries.ascending,
+    }
+}
+
+// Whether a set's two actions are one.
+fn same_actions(s: &[u8]) -> bool
+    requires { ⌜ 16 ≤ length (now s) ⌝ }
+    ensures { λ r. ⌜ r ≡ eqb (numberAt 4 (now (s .entry)) 4) (numberAt 4 (now (s .entry)) 8) ⌝ }
+{
+    let mismatch = bpf::u32_at(s, 4);
+    let on_match = bpf::u32_at(s, 8);
+    mismatch == on_match
+}
+
+// What is refused in a set of the format, by what the walk found.
+fn refusal(s: &[u8], found: Scan) -> u32
+    requires { ⌜ 16 ≤ length (now s) ⌝ }
+    ensures { λ r. ⌜ r ≡ refusalFrom found (eqb (numberAt 4 (now (s .entry)) 4) (numberAt 4 (now (s .entry)) 8)) ⌝ }
+{
+    if !found.ascending {
+        return 2;
+    }
+    if same_actions(s) {
+        return 3;
+    }
+    if !found.filled {
+        return 4;
+    }
+    if !found.indexed {
+        return 5;
+    }
+    0
+}
+
+// What is said of a set whatever it is for: 1 where it is not of the format, 2 to 5 where something in it is refused, else 0; and how
+// many instructions its filter has.
+pub struct Judged {
+    pub code: u32,
+    pub count: usize,
+}
+
+pub fn judge(s: &[u8]) -> Judged
+    ensures { λ r. ⌜ (r ≡ judged (read (now (s .entry)))) × (r .count ≤ 1048581) ⌝ }
+{
+    let found = scan_set(s);
+    if !found.ok {
+        return Judged { code: 1, count: 0 };
+    }
+    Judged {
+        code: refusal(s, found),
+        count: found.count,
     }
 }

@@ -8,31 +8,49 @@ use Prim.Native.Nat.{ℕ, _*_, _≤_, _<_}
 use native.Mathlib.Omega.{arith}
 use lib.Dec.{eqb, leb, ltb}
 use lib.ListN.{length}
-use borrow.Author.Tests.{leb-false, ltb-false}
+use borrow.Author.Tests.{eqb-true, eqb-false, leb-false, ltb-false, not-false}
 use Rattle.definitions.specs.declared.Answer.{Answer}
 use Rattle.definitions.specs.RuleSet.{RuleSet}
 use Rattle.definitions.specs.Emitted.{emitted}
 use Rattle.definitions.specs.Format.{read}
-use Rattle.definitions.specs.Answer.{ascending, rulesFilled, indicesTaken, tooMany, answer, answerWith, answerRead, answerOf}
+use Rattle.definitions.specs.Answer.{ascending, rulesFilled, indicesTaken, tooMany, answer, refusal, answerWith, answerRead, answerOf}
 
 pub record Compiles (set : List ℕ) (room : ℕ) (r : Answer) (rs : RuleSet) : Type 0 where
   pub from : read set ≡ some rs
-  pub indices : indicesTaken rs ≡ true
+  pub nothing : refusal rs ≡ 0
   pub short : length (emitted rs) < tooMany
   pub fits : 8 * length (emitted rs) ≤ room
   pub said : r ≡ answer 0 (length (emitted rs))
 
--- a test that led to another answer than 0
-past : (t : Bool) (k n : ℕ) (rest : Answer) → (k ≡ 0 → ⊥) → (cond t (answer k n) rest) .code ≡ 0 → (t ≡ false) × (rest .code ≡ 0)
-past true k n rest h e = absurd (h e)
-past false k n rest h e = (refl, e)
+-- a test that led to another number than 0
+past : (t : Bool) (k rest : ℕ) → (k ≡ 0 → ⊥) → cond t k rest ≡ 0 → (t ≡ false) × (rest ≡ 0)
+past true k rest h e = absurd (h e)
+past false k rest h e = (refl, e)
 
-kept-true : (t : Bool) → not t ≡ false → t ≡ true
-kept-true true e = refl
-kept-true false e = sym e
+pub indices-taken : (rs : RuleSet) → refusal rs ≡ 0 → indicesTaken rs ≡ true
+unfolding refusal
+indices-taken rs e =
+    let w2 = past (not (ascending (rs .entries))) 2 _ (λ q. omega arith) e in
+    let w3 = past (eqb (rs .mismatch) (rs .onMatch)) 3 _ (λ q. omega arith) (w2 .1) in
+    let w4 = past (not (rulesFilled rs)) 4 _ (λ q. omega arith) (w3 .1) in
+    let w5 = past (not (indicesTaken rs)) 5 0 (λ q. omega arith) (w4 .1) in
+    not-false (indicesTaken rs) (w5 .0)
+
+-- a test that led to another answer than 0
+elsewhere : (t : Bool) (k n : ℕ) (rest : Answer) → (k ≡ 0 → ⊥) → (cond t (answer k n) rest) .code ≡ 0 → (t ≡ false) × (rest .code ≡ 0)
+elsewhere true k n rest h e = absurd (h e)
+elsewhere false k n rest h e = (refl, e)
+
+-- the answer to a refusal is not 0
+nothing-refused : (k : ℕ) (rest : Answer) → (cond (not (eqb k 0)) (answer k 0) rest) .code ≡ 0 → (k ≡ 0) × (rest .code ≡ 0)
+nothing-refused k rest e = go (eqb k 0) refl
+  where
+    go : (t : Bool) → eqb k 0 ≡ t → (k ≡ 0) × (rest .code ≡ 0)
+    go true q = (eqb-true k 0 q, rw q at e)
+    go false q = absurd (eqb-false k 0 q (rw q at e))
 
 record Answered (n : ℕ) (rs : RuleSet) (room : ℕ) : Type 0 where
-  indices : indicesTaken rs ≡ true
+  nothing : refusal rs ≡ 0
   short : n < tooMany
   fits : 8 * n ≤ room
   said : answerWith n rs room ≡ answer 0 n
@@ -40,24 +58,21 @@ record Answered (n : ℕ) (rs : RuleSet) (room : ℕ) : Type 0 where
 answered : (n : ℕ) (rs : RuleSet) (room : ℕ) → answerWith n rs room .code ≡ 0 → Answered n rs room
 unfolding answerWith
 answered n rs room e =
-    let w2 = past (not (ascending (rs .entries))) 2 0 _ (λ q. omega arith) e in
-    let w3 = past (eqb (rs .mismatch) (rs .onMatch)) 3 0 _ (λ q. omega arith) (w2 .1) in
-    let w4 = past (not (rulesFilled rs)) 4 0 _ (λ q. omega arith) (w3 .1) in
-    let w5 = past (not (indicesTaken rs)) 5 0 _ (λ q. omega arith) (w4 .1) in
-    let w6 = past (leb tooMany n) 6 n _ (λ q. omega arith) (w5 .1) in
-    let w7 = past (ltb room (8 * n)) 7 n (answer 0 n) (λ q. omega arith) (w6 .1) in
+    let w5 = nothing-refused (refusal rs) _ e in
+    let w6 = elsewhere (leb tooMany n) 6 n _ (λ q. omega arith) (w5 .1) in
+    let w7 = elsewhere (ltb room (8 * n)) 7 n (answer 0 n) (λ q. omega arith) (w6 .1) in
     record {
-      indices = kept-true (indicesTaken rs) (w5 .0);
+      nothing = w5 .0;
       short = leb-false tooMany n (w6 .0);
       fits = ltb-false room (8 * n) (w7 .0);
-      said = rw (w2 .0, w3 .0, w4 .0, w5 .0, w6 .0, w7 .0);
+      said = rw (w5 .0, w6 .0, w7 .0);
     }
 
 by-read : (set : List ℕ) (room : ℕ) (r : Answer) (x : Option RuleSet) → read set ≡ x → r ≡ answerRead x room → r .code ≡ 0 → (rs : RuleSet) × Compiles set room r rs
 by-read set room r none e p z = absurd (let q = ap (λ (a : Answer). a .code) p in omega arith)
 by-read set room r (some rs) e p z =
     let a = answered (length (emitted rs)) rs room (sym (ap (λ (a : Answer). a .code) p) ∙ z) in
-    (rs, record { from = e; indices = a .indices; short = a .short; fits = a .fits; said = p ∙ a .said })
+    (rs, record { from = e; nothing = a .nothing; short = a .short; fits = a .fits; said = p ∙ a .said })
 
 pub compiles : (set : List ℕ) (room : ℕ) (r : Answer) → r ≡ answerOf set room → r .code ≡ 0 → (rs : RuleSet) × Compiles set room r rs
 unfolding answerOf

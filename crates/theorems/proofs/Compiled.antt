@@ -17,14 +17,14 @@ use Rattle.definitions.specs.Kernel.{acceptsBytes}
 use Rattle.definitions.specs.RuleSet.{RuleSet, meaning}
 use Rattle.definitions.specs.Emitted.{emitted}
 use Rattle.definitions.specs.Format.{read, InRange}
-use Rattle.definitions.specs.Answer.{answer, answerOf, tooMany}
+use Rattle.definitions.specs.Answer.{indicesTaken, answer, answerOf, tooMany}
 use Rattle.definitions.specs.Compiled.{FormOf, written, filterIn, Compiled}
 use Rattle.theorems.specs.Statements.{GrowsBytes}
 use Rattle.theorems.proofs.Tests.{some-same}
 use Rattle.theorems.proofs.Bytes.{length-filter, bytes-right, bytes-taken, bytes-once}
 use Rattle.theorems.proofs.RoundTrip.{read-written, written-read}
 use Rattle.theorems.proofs.Grows.{grows}
-use Rattle.theorems.proofs.Answers.{Compiles}
+use Rattle.theorems.proofs.Answers.{Compiles, indices-taken}
 
 -- the rule set that bytes are the form of is the one that is read from them
 one-set : (set : List ℕ) (rs other : RuleSet) → read set ≡ some rs → FormOf other set → other ≡ rs
@@ -57,13 +57,16 @@ module _ (set before after : List ℕ) (r : Answer) (rs : RuleSet) (bytes : AreB
   ranged : InRange rs
   ranged = read-written set bytes rs (k .from) .0
 
+  indices : indicesTaken rs ≡ true
+  indices = indices-taken rs (k .nothing)
+
   pub done : Compiled set before after r
   done = record {
     answer = a;
     kept = rw (written-is, p) (drop-at (filterBytes (emitted rs)) _ (8 * length (emitted rs)) (length-filter (emitted rs)));
     same = λ z other f. rw (one-set set rs other (k .from) f) filter-is;
-    right = λ z other f c. rw (one-set set rs other (k .from) f, filter-is) (bytes-right rs ranged (k .indices) c);
-    taken = λ z. rw filter-is (bytes-taken rs ranged (k .indices) (omega (arith, k .short)));
+    right = λ z other f c. rw (one-set set rs other (k .from) f, filter-is) (bytes-right rs ranged indices c);
+    taken = λ z. rw filter-is (bytes-taken rs ranged indices (omega (arith, k .short)));
     once = λ z c.
         let n : length (filterBytes (emitted rs)) / 8 ≡ length (emitted rs) = omega (arith, length-filter (emitted rs)) in
         rw (filter-is, count-is) (rw n at (bytes-once (filterBytes (emitted rs)) c));

@@ -13,7 +13,7 @@ use Rattle.definitions.specs.declared.Answer.{Answer}
 use Rattle.definitions.specs.Word.{bytesOf, numberOf, numberAt}
 use Rattle.definitions.specs.RuleSet.{x86-64, aarch64, architectureWord, oneOf, isAction, Rule, Entry, RuleSet}
 use Rattle.definitions.specs.Format.{architectureNumber, widthNumber, operatorNumber, encodeCondition, encodeRule, encodeEntry, encode, architectureOf, widthOf, operatorOf, maskTaken, times, conditionAt, ruleAt, entryAt, read}
-use Rattle.definitions.specs.Answer.{ascending, all, answerWith, answerOf}
+use Rattle.definitions.specs.Answer.{ascending, all, refusal, answerWith, answerOf}
 use Rattle.definitions.specs.Emitted.{highTests, lowTests, highPart, lowPart, conditionCode, helpers, near, stepCode, stepDistance, conditionsCode, distance, ruleCode, rulesCode, bodyCode, entryCode, entriesCode, numbersCode, emitted}
 use Rattle.definitions.proofs.Examples.RuleSet.{compared, allow, errno}
 
@@ -100,7 +100,7 @@ abbrev rowHolds : Row → Bool
 rowHolds r = let a = answerOf (r .bytes) (r .room) in eqb (a .code) (r .code) && eqb (a .count) (r .count)
 
 table-holds : all rowHolds table ≡ true
-unfolding answerOf answerWith ascending read entryAt ruleAt conditionAt times maskTaken operatorOf widthOf architectureOf isAction oneOf numberAt numberOf encode encodeEntry encodeRule encodeCondition bytesOf architectureNumber widthNumber operatorNumber architectureWord emitted numbersCode entriesCode entryCode bodyCode rulesCode ruleCode conditionsCode distance stepCode stepDistance helpers near conditionCode highPart lowPart highTests lowTests
+unfolding answerOf answerWith refusal ascending read entryAt ruleAt conditionAt times maskTaken operatorOf widthOf architectureOf isAction oneOf numberAt numberOf encode encodeEntry encodeRule encodeCondition bytesOf architectureNumber widthNumber operatorNumber architectureWord emitted numbersCode entriesCode entryCode bodyCode rulesCode ruleCode conditionsCode distance stepCode stepDistance helpers near conditionCode highPart lowPart highTests lowTests
 table-holds = refl
 
 -- 6: the limit itself, by the number of instructions alone
@@ -109,5 +109,5 @@ smallest = record { architecture = x86-64; mismatch = errno 1; onMatch = allow; 
 
 limit : (answerWith 4095 smallest 40000 ≡ record { code = 0; count = 4095 }) × (answerWith 4096 smallest 40000 ≡ record { code = 6; count = 4096 })
     × (answerWith 4096 smallest 0 ≡ record { code = 6; count = 4096 }) × (answerWith 4095 smallest 32759 ≡ record { code = 7; count = 4095 })
-unfolding answerWith ascending
+unfolding answerWith refusal ascending
 limit = (refl, refl, refl, refl)

@@ -1,7 +1,7 @@
 -- `same_actions` meets its contract.
 use borrow.Author.Needs.{needs}
-use Rattle.callfilter.proofs.same_actions.Statement.{statement}
-use Rattle.callfilter.proofs.same_actions.Tie as tie
+use Rattle.ruleset.proofs.same_actions.Statement.{statement}
+use Rattle.ruleset.proofs.same_actions.Tie as tie
 
 u32-at-requires : tie.Need-u32-at-requires
 u32-at-requires c κs = search needs
