@@ -7,7 +7,7 @@ ghost use lib.Dec.{eqb};
 ghost use Rattle.definitions.specs.Answer as answers;
 ghost use Rattle.definitions.specs.Compiled.{Compiled};
 ghost use Rattle.definitions.specs.Kernel.{acceptsBytes};
-ghost use Rattle.definitions.specs.Outcome.{outcomeOf};
+ghost use Rattle.definitions.specs.Outcome.{outcomeOf, decidedOf};
 ghost use Rattle.definitions.specs.Parts.{withEntry, withRule, conditionPart};
 ghost use Rattle.definitions.specs.Writers.{Started, Added};
 ghost use Rattle.definitions.specs.Readers as readers;
@@ -75,6 +75,14 @@ pub extern "C" fn callfilter_run(filter: &[u8], call: &[u8]) -> Outcome
     ensures { λ r. ⌜ r ≡ outcomeOf (now (filter .entry)) (now (call .entry)) ⌝ }
 {
     machine::run(filter, call)
+}
+
+// What a rule set means for a call.
+#[no_mangle]
+pub extern "C" fn callfilter_decide(set: &[u8], call: &[u8]) -> Outcome
+    ensures { λ r. ⌜ r ≡ decidedOf (now (set .entry)) (now (call .entry)) ⌝ }
+{
+    decision::decide(set, call)
 }
 
 // Starts a set in a lent buffer: nothing is listed in it yet.

@@ -1,12 +1,16 @@
--- What asking about a call answers, without a kernel: what a filter does with it.
+-- What asking about a call answers, without a kernel: what a filter does with it, and what a rule set means for it.
 use Prim.Native.Nat.{ℕ}
 use mathlib.Core.Bool.{cond}
 use mathlib.Core.List.{List}
+use mathlib.Core.Option.{Option, none, some}
 use lib.Dec.{eqb}
 use lib.ListN.{length}
 use Rattle.definitions.specs.declared.Outcome.{Outcome}
-use Rattle.definitions.specs.Machine.{Result, returns, stuck, filterOf, callOf, runs, steps}
+use Rattle.definitions.specs.Machine.{Result, returns, stuck, filterOf, Call, callOf, runs, steps}
 use Rattle.definitions.specs.Kernel.{acceptsBytes}
+use Rattle.definitions.specs.RuleSet.{RuleSet, meaning}
+use Rattle.definitions.specs.Format.{read}
+use Rattle.definitions.specs.Answer.{refusal}
 
 -- a filter that the kernel would not take
 abbrev pub refused : Outcome
@@ -27,3 +31,17 @@ outcomeOf filter call =
     cond (eqb (length call) 64)
     (cond (acceptsBytes filter) (ended (runs (filterOf filter) (callOf call)) (steps (filterOf filter) (callOf call))) refused)
     noCall
+
+-- ---- a rule set: nothing runs, so there are no steps
+
+abbrev pub decided : ℕ → ℕ → Outcome
+decided code action = record { code = code; action = action; steps = 0 }
+
+-- What is refused is not decided. Too long a filter is no refusal here, since none is made.
+abbrev pub decidedRead : Option RuleSet → Call → Outcome
+decidedRead none c = decided 1 0
+decidedRead (some rs) c = cond (eqb (refusal rs) 0) (decided 0 (meaning rs c)) (decided (refusal rs) 0)
+
+-- what a rule set's bytes mean for a call's bytes
+unfoldable pub decidedOf : List ℕ → List ℕ → Outcome
+decidedOf set call = cond (eqb (length call) 64) (decidedRead (read set) (callOf call)) noCall

@@ -42,8 +42,9 @@ pub struct Answer {
     pub count: u32,
 }
 
-// What became of a run: 0 with the action and the number of instructions executed, 1 for a filter that the kernel would not take,
-// 9 for a call that is not 64 bytes.
+// What asking about a call answers. Of a filter: 0 with the action and the number of instructions executed, or 1 for a filter that the
+// kernel would not take. Of a rule set: 0 with the action, or the answer 1 to 5 that compiling it gives. And 9 for a call that is not
+// 64 bytes.
 #[repr(C)]
 pub struct Outcome {
     pub code: u32,

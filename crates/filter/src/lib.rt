@@ -18,7 +18,7 @@ use bpf::jump_by;
 use bpf::load;
 use rule::Written;
 
-fn architecture_word(a: u32) -> u32
+pub fn architecture_word(a: u32) -> u32
     ensures { λ r. ⌜ r ≡ architectureWord (namedArchitecture a) ⌝ }
 {
     if a == 1 {

@@ -138,7 +138,7 @@ fn put_rule(out: &mut [u8], s: &[u8], n: u32, from: usize, at: usize, m: u32) ->
 }
 
 // Where the conditions of a rule end, the rule standing at a place with its number of conditions.
-fn rule_past(at: usize, n: u32) -> usize
+pub fn rule_past(at: usize, n: u32) -> usize
     requires { ⌜ at + 4 + 24 * n ≤ 1048576 ⌝ }
     ensures { λ r. ⌜ r ≡ at + 4 + 24 * n ⌝ }
 {

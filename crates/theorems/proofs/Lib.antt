@@ -16,3 +16,4 @@ pub mod Grows
 pub mod Answers
 pub mod Compiled
 pub mod Lengths
+pub mod Agree

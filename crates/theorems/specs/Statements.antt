@@ -16,7 +16,7 @@ use Rattle.definitions.specs.Emitted.{emitted}
 use Rattle.definitions.specs.Format.{InRange, encode, read}
 use Rattle.definitions.specs.Answer.{indicesTaken}
 use Rattle.definitions.specs.Compiled.{FormOf, filterIn, Compiled}
-use Rattle.definitions.specs.Outcome.{outcomeOf}
+use Rattle.definitions.specs.Outcome.{outcomeOf, decidedOf}
 use Rattle.theorems.specs.Length.{filterLength}
 
 -- ---- of the emitted filter
@@ -95,3 +95,11 @@ GrowsBytes =
     → Compiled old-set old-before old-after r → Compiled new-set new-before new-after s → r .code ≡ 0 → s .code ≡ 0
     → Grown old new → (c : Call)
     → runs (filterOf (filterIn r old-after)) c ≡ returns (old .onMatch) → runs (filterOf (filterIn s new-after)) c ≡ returns (new .onMatch)
+
+-- running what compiling wrote and asking the rule set itself give one action, for every call
+abbrev pub Agree : Type 0
+Agree =
+    (set before after : List ℕ) (r : Answer) → AreBytes set → Compiled set before after r → r .code ≡ 0
+    → (call : List ℕ) → length call ≡ 64
+    → (outcomeOf (filterIn r after) call .code ≡ 0) × (decidedOf set call .code ≡ 0)
+    × (outcomeOf (filterIn r after) call .action ≡ decidedOf set call .action)

@@ -1,13 +1,21 @@
--- Examples of Outcome, by computation: a call as bytes, and what is answered for whole runs.
+-- Examples of Outcome, by computation: a call as bytes, what is answered for whole runs, and for rule sets.
 use mathlib.Core.Path.{_≡_, refl}
 use mathlib.Core.List.{List, [], _∷_, _++_}
-use Prim.Native.Nat.{ℕ}
-use lib.ListN.{replicate}
+use mathlib.Core.Bool.{Bool, true, _&&_}
+use Prim.Native.Nat.{ℕ, _+_, _^_}
+use lib.Dec.{eqb}
+use lib.ListN.{take, replicate, set as put}
+use Rattle.definitions.specs.declared.Operator.the-variants.{Ge}
+use Rattle.definitions.specs.declared.Width.the-variants.{Qword}
 use Rattle.definitions.specs.Word.{bytesOf, numberOf, numberAt}
 use Rattle.definitions.specs.Machine.{instructionBytes, filterBytes, instructionAt, instructionsAt, filterOf, callOf, words, fetch, codes, kindIn, kindOf, intoA, compute, testHolds, stepAs, step, run, visits}
 use Rattle.definitions.specs.Kernel.{constantTaken, operandTaken, takenAs, eachTaken, effectAs, effectOf, isReturn, endsInReturn, scratchNext, scratchTaken, accepts, acceptsBytes}
 use Rattle.definitions.specs.Emitted.{load, ifEqual, return}
-use Rattle.definitions.specs.Outcome.{outcomeOf}
+use Rattle.definitions.specs.RuleSet.{x86-64, architectureWord, Rule, Entry, killProcess, oneOf, isAction, test, holds, allHold, anyHolds, matches, listed, meaning}
+use Rattle.definitions.specs.Format.{architectureNumber, widthNumber, operatorNumber, encodeCondition, encodeRule, encodeEntry, encode, architectureOf, widthOf, operatorOf, maskTaken, times, conditionAt, ruleAt, entryAt, read}
+use Rattle.definitions.specs.Answer.{ascending, all, refusal}
+use Rattle.definitions.proofs.Examples.RuleSet.{compared, allow, errno}
+use Rattle.definitions.specs.Outcome.{outcomeOf, decidedOf}
 
 -- number 7, architecture 0xc000003e, pointer 2 ^ 32 + 1, arguments 2, 3, 4, 5, 6 and 2 ^ 56
 abbrev call : List ℕ
@@ -29,3 +37,51 @@ answers : (outcomeOf filter call ≡ record { code = 0; action = 2; steps = 3 })
     × (outcomeOf filter (0 ∷ call) ≡ record { code = 9; action = 0; steps = 0 })
 unfolding outcomeOf acceptsBytes accepts eachTaken takenAs operandTaken constantTaken endsInReturn isReturn scratchNext scratchTaken effectOf effectAs kindOf kindIn codes run visits step stepAs fetch words intoA compute testHolds filterOf instructionsAt instructionAt numberAt numberOf filterBytes instructionBytes bytesOf
 answers = (refl, refl, refl, refl)
+
+-- ---- rule sets
+
+-- mismatch action d; number 7 with one rule
+abbrev ruled : ℕ → Rule → List ℕ
+ruled d r = encode (record { architecture = x86-64; mismatch = d; onMatch = allow; entries = record { number = 7; rules = r ∷ [] } ∷ [] })
+
+abbrev plain : ℕ → Entry
+plain n = record { number = n; rules = [] }
+
+-- the last argument is at least v
+abbrev least : ℕ → Rule
+least v = compared Ge Qword 5 v 0 ∷ []
+
+-- the set, the call, and the outcome's code and action
+record Row : Type 0 where
+  set : List ℕ
+  asked : List ℕ
+  code : ℕ
+  action : ℕ
+
+abbrev row : List ℕ → List ℕ → ℕ → ℕ → Row
+row s c k a = record { set = s; asked = c; code = k; action = a }
+
+abbrev table : List Row
+table =
+    -- match, mismatch, a number that is not listed, another architecture
+    row (ruled (errno 1) (least (2 ^ 56))) call 0 allow
+    ∷ row (ruled (errno 1) (least (2 ^ 56 + 1))) call 0 (errno 1)
+    ∷ row (ruled (errno 1) (least 0)) (put call 0 8) 0 (errno 1)
+    ∷ row (ruled (errno 1) (least 0)) (put call 4 0) 0 killProcess
+    -- 1 to 5 as compiling answers
+    ∷ row [] call 1 0
+    ∷ row (encode (record { architecture = x86-64; mismatch = errno 1; onMatch = allow; entries = plain 7 ∷ plain 7 ∷ [] })) call 2 0
+    ∷ row (ruled allow (least 0)) call 3 0
+    ∷ row (ruled (errno 1) []) call 4 0
+    ∷ row (ruled (errno 1) (compared Ge Qword 6 0 0 ∷ [])) call 5 0
+    -- 9 first, whatever the set
+    ∷ row (ruled (errno 1) (least 0)) (0 ∷ call) 9 0
+    ∷ row [] (take 63 call) 9 0
+    ∷ []
+
+abbrev rowHolds : Row → Bool
+rowHolds r = let o = decidedOf (r .set) (r .asked) in eqb (o .code) (r .code) && eqb (o .action) (r .action) && eqb (o .steps) 0
+
+decisions : all rowHolds table ≡ true
+unfolding decidedOf refusal ascending read entryAt ruleAt conditionAt times maskTaken operatorOf widthOf architectureOf isAction oneOf numberAt numberOf encode encodeEntry encodeRule encodeCondition bytesOf architectureNumber widthNumber operatorNumber architectureWord meaning listed matches anyHolds allHold holds test
+decisions = refl

@@ -1,0 +1,159 @@
+-- Laws of what a rule set means, from the bytes: an argument's place, and for each loop when it stops, one turn, and its end.
+use mathlib.Core.Path.{_≡_, refl}
+use mathlib.Core.Bool.{Bool, true, false, cond}
+use mathlib.Core.List.{List}
+use mathlib.Core.Option.{Option, none, some}
+use Prim.Native.Nat.{ℕ, zero, suc, _+_, _-_, _*_, _≤_, _<_}
+use native.Mathlib.Omega.{arith}
+use lib.ListN.{length}
+use borrow.Author.Tests.{eq-eqb, ne-eqb}
+use Rattle.definitions.specs.Word.{numberAt}
+use Rattle.definitions.specs.Machine.{Call, callOf}
+use Rattle.definitions.specs.RuleSet.{RuleSet, architectureWord, killProcess, argument, holds, allHold, anyHolds, matches, listed, meaning}
+use Rattle.definitions.specs.Format.{read}
+use Rattle.definitions.specs.Answer.{refusal}
+use Rattle.definitions.specs.Outcome.{decided, decidedRead, decidedOf}
+use Rattle.condition.specs.Here.{conditionHere}
+use Rattle.rule.specs.At.{conditionsHere, rulesHere, rulesPast}
+use Rattle.ruleset.specs.declared.Judged.{Judged}
+use Rattle.ruleset.specs.Scan.{judged}
+use Rattle.filter.specs.At.{namedArchitecture, entryHere, entryPast, entriesHere, entriesPast, setHere}
+use Rattle.filter.proofs.Laws.{entry-past, entry-further, entry-inside}
+use Rattle.filter.proofs.Agree.{read-agrees}
+
+-- ---- an argument
+
+pub argument-at : (i : ℕ) (call : List ℕ) → i ≤ 5 → argument i (callOf call) ≡ numberAt 8 call (16 + 8 * i)
+argument-at zero call h = refl
+argument-at (suc zero) call h = refl
+argument-at (suc (suc zero)) call h = refl
+argument-at (suc (suc (suc zero))) call h = refl
+argument-at (suc (suc (suc (suc zero)))) call h = refl
+argument-at (suc (suc (suc (suc (suc zero))))) call h = refl
+argument-at (suc (suc (suc (suc (suc (suc i)))))) call h = absurd (omega arith)
+
+pub argument-none : (i : ℕ) (call : List ℕ) → 5 < i → argument i (callOf call) ≡ 0
+argument-none zero call h = absurd (omega arith)
+argument-none (suc zero) call h = absurd (omega arith)
+argument-none (suc (suc zero)) call h = absurd (omega arith)
+argument-none (suc (suc (suc zero))) call h = absurd (omega arith)
+argument-none (suc (suc (suc (suc zero)))) call h = absurd (omega arith)
+argument-none (suc (suc (suc (suc (suc zero))))) call h = absurd (omega arith)
+argument-none (suc (suc (suc (suc (suc (suc i)))))) call h = refl
+
+less : (n : ℕ) → suc n - 1 ≡ n
+less n = omega arith
+
+module _ (c : Call) (s : List ℕ) where
+  -- ---- conditions
+
+  pub all-stop : (n at : ℕ) → (n ≡ 0 → ⊥) → holds c (conditionHere s at) ≡ false → allHold c (conditionsHere s n at) ≡ false
+  unfolding conditionsHere allHold
+  all-stop zero at h e = absurd (h refl)
+  all-stop (suc n) at h e = rw e
+
+  pub all-turn : (n at : ℕ) → (n ≡ 0 → ⊥) → holds c (conditionHere s at) ≡ true
+      → allHold c (conditionsHere s n at) ≡ allHold c (conditionsHere s (n - 1) (at + 24))
+  unfolding conditionsHere allHold
+  all-turn zero at h e = absurd (h refl)
+  all-turn (suc n) at h e = rw (e, less n)
+
+  pub all-end : (n at : ℕ) → n ≡ 0 → allHold c (conditionsHere s n at) ≡ true
+  unfolding conditionsHere allHold
+  all-end n at e = rw e
+
+  -- ---- rules
+
+  pub any-stop : (n at : ℕ) → (n ≡ 0 → ⊥) → allHold c (conditionsHere s (numberAt 4 s at) (at + 4)) ≡ true → anyHolds c (rulesHere s n at) ≡ true
+  unfolding rulesHere anyHolds
+  any-stop zero at h e = absurd (h refl)
+  any-stop (suc n) at h e = rw e
+
+  pub any-turn : (n at : ℕ) → (n ≡ 0 → ⊥) → allHold c (conditionsHere s (numberAt 4 s at) (at + 4)) ≡ false
+      → anyHolds c (rulesHere s n at) ≡ anyHolds c (rulesHere s (n - 1) (at + 4 + 24 * numberAt 4 s at))
+  unfolding rulesHere anyHolds
+  any-turn zero at h e = absurd (h refl)
+  any-turn (suc n) at h e = rw (e, less n)
+
+  pub any-end : (n at : ℕ) → n ≡ 0 → anyHolds c (rulesHere s n at) ≡ false
+  unfolding rulesHere anyHolds
+  any-end n at e = rw e
+
+  pub matches-none : (n at : ℕ) → n ≡ 0 → matches c (rulesHere s n at) ≡ true
+  unfolding rulesHere matches
+  matches-none n at e = rw e
+
+  pub matches-some : (n at : ℕ) → (n ≡ 0 → ⊥) → matches c (rulesHere s n at) ≡ anyHolds c (rulesHere s n at)
+  unfolding rulesHere matches
+  matches-some zero at h = absurd (h refl)
+  matches-some (suc n) at h = refl
+
+  -- ---- entries
+
+  pub listed-stop : (m d n at : ℕ) (t : Bool) → (n ≡ 0 → ⊥) → c .number ≡ numberAt 4 s at
+      → matches c (rulesHere s (numberAt 4 s (at + 4)) (at + 8)) ≡ t → listed c m d (entriesHere s n at) ≡ cond t m d
+  unfolding entriesHere entryHere listed
+  listed-stop m d zero at t h e f = absurd (h refl)
+  listed-stop m d (suc n) at t h e f = rw (eq-eqb (c .number) (numberAt 4 s at) e, f)
+
+  pub listed-turn : (m d n at : ℕ) → (n ≡ 0 → ⊥) → (c .number ≡ numberAt 4 s at → ⊥)
+      → listed c m d (entriesHere s n at) ≡ listed c m d (entriesHere s (n - 1) (entryPast s at))
+  unfolding entriesHere entryHere listed
+  listed-turn m d zero at h e = absurd (h refl)
+  listed-turn m d (suc n) at h e = rw (ne-eqb (c .number) (numberAt 4 s at) e, less n)
+
+  pub listed-end : (m d n at : ℕ) → n ≡ 0 → listed c m d (entriesHere s n at) ≡ d
+  unfolding entriesHere listed
+  listed-end m d n at e = rw e
+
+  -- ---- the whole
+
+  pub meaning-other : (c .architecture ≡ architectureWord (namedArchitecture (numberAt 4 s 0)) → ⊥) → meaning (setHere s) c ≡ killProcess
+  unfolding meaning setHere
+  meaning-other h = rw (ne-eqb _ _ h)
+
+  pub meaning-own : c .architecture ≡ architectureWord (namedArchitecture (numberAt 4 s 0))
+      → meaning (setHere s) c ≡ listed c (numberAt 4 s 8) (numberAt 4 s 4) (entriesHere s (numberAt 4 s 12) 16)
+  unfolding meaning setHere
+  meaning-own e = rw (eq-eqb _ _ e)
+
+-- where all that is left ends in the bytes, the next entry does
+pub entry-fits : (s : List ℕ) (n at past : ℕ) → (n ≡ 0 → ⊥) → entriesPast s n at ≡ past → past ≤ length s
+    → (at + 8 ≤ length s) × (rulesPast s (numberAt 4 s (at + 4)) (at + 8) ≤ length s)
+entry-fits s n at past h e i =
+    let inside = entry-inside s n at past h e i in
+    (omega (arith, entry-further s at), rw (← entry-past s at) inside)
+
+-- ---- what is decided, by what is said of the set
+
+refused-by : (x : Option RuleSet) (c : Call) → (judged x .code ≡ 0 → ⊥) → decidedRead x c ≡ decided (judged x .code) 0
+unfolding judged
+refused-by none c h = refl
+refused-by (some rs) c h = rw (ne-eqb (refusal rs) 0 h)
+
+pub decided-refused : (set call : List ℕ) (j : Judged) → length call ≡ 64 → j ≡ judged (read set) → (j .code ≡ 0 → ⊥)
+    → decidedOf set call ≡ decided (j .code) 0
+unfolding decidedOf
+decided-refused set call j size e h = rw (eq-eqb (length call) 64 size, e) (refused-by (read set) (callOf call) (rw e at h))
+
+-- a set of which nothing is refused: its bytes may be walked, and what they mean is decided
+pub record Decides (set : List ℕ) (x : Option RuleSet) (c : Call) : Type 0 where
+  pub head : 16 ≤ length set
+  pub size : length set ≤ 1048576
+  pub entries : entriesPast set (numberAt 4 set 12) 16 ≤ length set
+  pub said : decidedRead x c ≡ decided 0 (meaning (setHere set) c)
+
+decides-by : (set : List ℕ) (x : Option RuleSet) (c : Call) → read set ≡ x → judged x .code ≡ 0 → Decides set x c
+unfolding judged
+decides-by set none c e z = absurd (omega arith)
+decides-by set (some rs) c e z =
+    let g = read-agrees set rs e in
+    record { head = g .1; size = g .2; entries = omega (arith, g .3); said = rw (← g .0, eq-eqb (refusal rs) 0 z) }
+
+pub decides : (set : List ℕ) (c : Call) (j : Judged) → j ≡ judged (read set) → j .code ≡ 0 → Decides set (read set) c
+decides set c j e z = decides-by set (read set) c refl (rw e at z)
+
+pub decided-meaning : (set call : List ℕ) → length call ≡ 64 → Decides set (read set) (callOf call)
+    → decidedOf set call ≡ decided 0 (meaning (setHere set) (callOf call))
+unfolding decidedOf
+decided-meaning set call size d = rw (eq-eqb (length call) 64 size) (d .said)

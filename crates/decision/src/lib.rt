@@ -1,0 +1,190 @@
+// What a rule set means for a call, straight from the bytes of both: no filter is made and none is run. A set is judged first, so that
+// the walk over its entries may trust every count in it.
+ghost use mathlib.Core.Path.{_≡_};
+ghost use Prim.Native.Nat.{_+_, _*_, _≤_};
+ghost use lib.ListN.{length};
+ghost use Rattle.definitions.specs.Word.{numberAt};
+ghost use Rattle.definitions.specs.Machine.{callOf};
+ghost use Rattle.definitions.specs.RuleSet as defined;
+ghost use Rattle.definitions.specs.Outcome as outcomes;
+ghost use Rattle.rule.specs.At.{conditionsHere, rulesHere, rulesPast};
+ghost use Rattle.filter.specs.At.{entriesHere, entriesPast, setHere};
+use condition::condition_here;
+use definitions::Condition;
+use definitions::Operator;
+use definitions::Outcome;
+use definitions::Width;
+
+// What of a number is looked at.
+fn cut(width: Width, x: u64) -> u64
+    ensures { λ r. ⌜ r ≡ defined.cut width x ⌝ }
+{
+    match width {
+        Width::Dword => x % 4294967296,
+        Width::Qword => x,
+    }
+}
+
+// An argument x against a value v, with a mask m.
+fn test(operator: Operator, x: u64, v: u64, m: u64) -> bool
+    ensures { λ r. ⌜ r ≡ defined.test operator x v m ⌝ }
+{
+    match operator {
+        Operator::Eq => x == v,
+        Operator::Ge => v <= x,
+        Operator::Gt => v < x,
+        Operator::Le => x <= v,
+        Operator::Lt => x < v,
+        Operator::MaskedEq => (x & m) == (v & m),
+        Operator::Ne => x != v,
+    }
+}
+
+// The argument with that index, and 0 where there is none.
+fn argument(call: &[u8], index: u8) -> u64
+    requires { ⌜ length (now call) ≡ 64 ⌝ }
+    ensures { λ r. ⌜ r ≡ defined.argument index (callOf (now (call .entry))) ⌝ }
+{
+    if 5 < index {
+        return 0;
+    }
+    bpf::u64_at(call, 16 + 8 * (index as usize))
+}
+
+fn holds(call: &[u8], q: Condition) -> bool
+    requires { ⌜ length (now call) ≡ 64 ⌝ }
+    ensures { λ r. ⌜ r ≡ defined.holds (callOf (now (call .entry))) q ⌝ }
+{
+    let width = q.width;
+    let x = cut(width, argument(call, q.index));
+    let v = cut(width, q.value);
+    let m = cut(width, q.mask);
+    let operator = q.operator;
+    test(operator, x, v, m)
+}
+
+// Whether all n conditions of a rule hold.
+fn all_hold(call: &[u8], s: &[u8], n: u32, from: usize) -> bool
+    requires { ⌜ length (now call) ≡ 64 ⌝ }
+    requires { ⌜ (from + 24 * n ≤ length (now s)) × (length (now s) ≤ 1048576) ⌝ }
+    ensures { λ r. ⌜ r ≡ defined.allHold (callOf (now (call .entry))) (conditionsHere (now (s .entry)) n from) ⌝ }
+{
+    let mut at = from;
+    let mut left = n;
+    while left != 0 {
+        if !holds(call, condition_here(s, at)) {
+            return false;
+        }
+        at = at + 24;
+        left = left - 1;
+    }
+    true
+}
+
+// Whether one of n rules matches.
+fn any_holds(call: &[u8], s: &[u8], n: u32, from: usize) -> bool
+    requires { ⌜ length (now call) ≡ 64 ⌝ }
+    requires { ⌜ (rulesPast (now s) n from ≤ length (now s)) × (length (now s) ≤ 1048576) ⌝ }
+    ensures { λ r. ⌜ r ≡ defined.anyHolds (callOf (now (call .entry))) (rulesHere (now (s .entry)) n from) ⌝ }
+{
+    let mut at = from;
+    let mut left = n;
+    while left != 0 {
+        let conditions = bpf::u32_at(s, at);
+        if all_hold(call, s, conditions, at + 4) {
+            return true;
+        }
+        at = rule::rule_past(at, conditions);
+        left = left - 1;
+    }
+    false
+}
+
+// Whether an entry with n rules matches; without rules it always does.
+fn matches(call: &[u8], s: &[u8], n: u32, from: usize) -> bool
+    requires { ⌜ length (now call) ≡ 64 ⌝ }
+    requires { ⌜ (rulesPast (now s) n from ≤ length (now s)) × (length (now s) ≤ 1048576) ⌝ }
+    ensures { λ r. ⌜ r ≡ defined.matches (callOf (now (call .entry))) (rulesHere (now (s .entry)) n from) ⌝ }
+{
+    if n == 0 {
+        return true;
+    }
+    any_holds(call, s, n, from)
+}
+
+// Where n rules end.
+fn rules_past(s: &[u8], n: u32, from: usize) -> usize
+    requires { ⌜ (rulesPast (now s) n from ≤ length (now s)) × (length (now s) ≤ 1048576) ⌝ }
+    ensures { λ r. ⌜ r ≡ rulesPast (now (s .entry)) n from ⌝ }
+{
+    let mut at = from;
+    let mut left = n;
+    while left != 0 {
+        let conditions = bpf::u32_at(s, at);
+        at = rule::rule_past(at, conditions);
+        left = left - 1;
+    }
+    at
+}
+
+// What n entries say. Match action m, mismatch action d.
+fn listed(call: &[u8], s: &[u8], n: u32, from: usize, m: u32, d: u32) -> u32
+    requires { ⌜ length (now call) ≡ 64 ⌝ }
+    requires { ⌜ (entriesPast (now s) n from ≤ length (now s)) × (length (now s) ≤ 1048576) ⌝ }
+    ensures { λ r. ⌜ r ≡ defined.listed (callOf (now (call .entry))) m d (entriesHere (now (s .entry)) n from) ⌝ }
+{
+    let number = bpf::u32_at(call, 0);
+    let mut at = from;
+    let mut left = n;
+    while left != 0 {
+        let rules = bpf::u32_at(s, at + 4);
+        if number == bpf::u32_at(s, at) {
+            if matches(call, s, rules, at + 8) {
+                return m;
+            }
+            return d;
+        }
+        at = rules_past(s, rules, at + 8);
+        left = left - 1;
+    }
+    d
+}
+
+// What a set of the format means. A call of another architecture is killed.
+fn meaning(s: &[u8], call: &[u8]) -> u32
+    requires { ⌜ (16 ≤ length (now s)) × (length (now s) ≤ 1048576) × (entriesPast (now s) (numberAt 4 (now s) 12) 16 ≤ length (now s)) ⌝ }
+    requires { ⌜ length (now call) ≡ 64 ⌝ }
+    ensures { λ r. ⌜ r ≡ defined.meaning (setHere (now (s .entry))) (callOf (now (call .entry))) ⌝ }
+{
+    if bpf::u32_at(call, 4) != filter::architecture_word(bpf::u32_at(s, 0)) {
+        return 0x80000000;
+    }
+    let d = bpf::u32_at(s, 4);
+    let m = bpf::u32_at(s, 8);
+    let n = bpf::u32_at(s, 12);
+    listed(call, s, n, 16, m, d)
+}
+
+fn decided(code: u32, action: u32) -> Outcome
+    ensures { λ r. ⌜ r ≡ outcomes.decided code action ⌝ }
+{
+    Outcome {
+        code: code,
+        action: action,
+        steps: 0,
+    }
+}
+
+// What a rule set means for a call.
+pub fn decide(set: &[u8], call: &[u8]) -> Outcome
+    ensures { λ r. ⌜ r ≡ outcomes.decidedOf (now (set .entry)) (now (call .entry)) ⌝ }
+{
+    if call.len() != 64 {
+        return decided(9, 0);
+    }
+    let code = ruleset::judge(set).code;
+    if code != 0 {
+        return decided(code, 0);
+    }
+    decided(0, meaning(set, call))
+}
