@@ -1,0 +1,63 @@
+#!/usr/bin/env python3
+"""Holds the proved functions to the kernel of this machine, by seccomp(2), on random filters and calls. Where a filter cannot be
+installed or the program not be built, that is a failure: nothing else here knows the real kernel.
+
+    run.py [--seed N] [--programs N]
+    run.py --seed N --program N      one filter again"""
+import argparse
+import pathlib
+import re
+import subprocess
+import sys
+import time
+
+HERE = pathlib.Path(__file__).resolve().parent
+sys.path.insert(0, str(HERE.parent))
+import archive  # noqa: E402
+
+
+def run(words, given=None):
+    """The words' last line as (passed, failed, skipped), everything printed as it comes."""
+    last, start = "", time.monotonic()
+    with subprocess.Popen(list(map(str, words)), stdin=given, stdout=subprocess.PIPE, text=True) as process:
+        for line in process.stdout:
+            if last:
+                print(last, flush=True)
+            last = line.rstrip("\n")
+    counts = re.fullmatch(r"(\d+) passed, (\d+) failed(?:, (\d+) skipped)?", last)
+    print(f"{last}, {time.monotonic() - start:.1f} s", flush=True)
+    if not counts or bool(process.returncode) != (counts[2] != "0"):
+        print(f"FAILED: ended with status {process.returncode}")
+        return 0, 1, 0
+    return tuple(int(count or 0) for count in counts.groups())
+
+
+def programs(compare, seed, first, count):
+    print("-- random filters", flush=True)
+    return run([compare, "programs", seed, first, count])
+
+
+def main():
+    parser = argparse.ArgumentParser()
+    parser.add_argument("--seed", type=int, default=20240501)
+    parser.add_argument("--programs", type=int, default=30000, help="how many random filters")
+    parser.add_argument("--program", type=int, help="only the filter with this number")
+    options = parser.parse_args()
+    try:
+        archive.build()
+        compare = archive.program(archive.ROOT / "target" / "kernel" / "compare", *sorted(HERE.glob("*.c")))
+    except (OSError, archive.Broken) as error:
+        print(f"FAILED: nothing was compared with the kernel: {error}")
+        print("0 passed, 1 failed")
+        return 1
+    if options.program is not None:
+        results = [programs(compare, options.seed, options.program, 1)]
+    else:
+        results = [programs(compare, options.seed, 0, options.programs)]
+    passed, failed, skipped = map(sum, zip(*results))
+    print(f"{passed} passed, {failed} failed" + (f", {skipped} skipped" if skipped else ""))
+    return 1 if failed else 0
+
+
+if __name__ == "__main__":
+    sys.exit(main())
