@@ -12,7 +12,7 @@ use Rattle.definitions.specs.declared.Writer.{Writer}
 use Rattle.definitions.specs.RuleSet.{Entry, RuleSet}
 use Rattle.definitions.specs.Emitted.{emitted}
 use Rattle.definitions.specs.Format.{joined, encodeEntry, encode}
-use Rattle.definitions.specs.Answer.{ascending, rulesFilled, indicesTaken, tooMany, answer, refusal, answerWith, answerOf}
+use Rattle.definitions.specs.Answer.{ascending, rulesFilled, indicesTaken, tooMany, answer, refusal, answerFitting, answerWith, answerOf}
 use Rattle.definitions.specs.Parts.{lastRules}
 use Rattle.definitions.specs.Writers.{RuleAt, noRule, lastRule, EntryAt, noEntry, lastEntry, Holds, stateFits, Made, begun, taken, refused}
 use Rattle.theorems.specs.Written.{Spelled, ReadBack, OfTheFormat, Compiling, Fitting, NeverStarted}
@@ -64,17 +64,23 @@ code r = r .code
 never-one : (n : ℕ) (rs : RuleSet) (room : ℕ) → answerWith n rs room .code ≡ 1 → ⊥
 unfolding answerWith
 never-one n rs room =
-    not-one code (not (eqb (refusal rs) 0)) (answer (refusal rs) 0) _ (refusal-not-one rs)
+    not-one code (eqb (refusal rs) 0) (answerFitting n room) (answer (refusal rs) 0)
     (not-one code (leb tooMany n) (answer 6 n) _ (λ e. omega arith)
     (not-one code (ltb room (8 * n)) (answer 7 n) (answer 0 n) (λ e. omega arith) (λ e. omega arith)))
+    (refusal-not-one rs)
 
 pub of-the-format : OfTheFormat
 unfolding answerOf
 of-the-format rs out w made room e = never-one (length (emitted rs)) rs room (rw (read-back rs out w made) at e)
 
+nothing-refused : (rs : RuleSet) → ascending (rs .entries) ≡ true → (rs .mismatch ≡ rs .onMatch → ⊥) → rulesFilled rs ≡ true → indicesTaken rs ≡ true
+    → refusal rs ≡ 0
+unfolding refusal
+nothing-refused rs up differ filled indexed = rw (up, ne-eqb (rs .mismatch) (rs .onMatch) differ, filled, indexed)
+
 pub compiling : Compiling
-unfolding answerOf answerWith refusal
-compiling rs out w made up differ filled indexed room = rw (read-back rs out w made, up, ne-eqb (rs .mismatch) (rs .onMatch) differ, filled, indexed)
+unfolding answerOf answerWith
+compiling rs out w made up differ filled indexed room = rw (read-back rs out w made, nothing-refused rs up differ filled indexed)
 
 -- ---- the state fits
 

@@ -63,13 +63,13 @@ refusal rs =
     (cond (not (indicesTaken rs)) 5
     0)))
 
+-- where nothing is refused, and the filter has n instructions
+abbrev pub answerFitting : ℕ → ℕ → Answer
+answerFitting n room = cond (leb tooMany n) (answer 6 n) (cond (ltb room (8 * n)) (answer 7 n) (answer 0 n))
+
 -- a rule set whose filter has n instructions
 unfoldable pub answerWith : ℕ → RuleSet → ℕ → Answer
-answerWith n rs room =
-    cond (not (eqb (refusal rs) 0)) (answer (refusal rs) 0)
-    (cond (leb tooMany n) (answer 6 n)
-    (cond (ltb room (8 * n)) (answer 7 n)
-    (answer 0 n)))
+answerWith n rs room = cond (eqb (refusal rs) 0) (answerFitting n room) (answer (refusal rs) 0)
 
 abbrev pub answerRead : Option RuleSet → ℕ → Answer
 answerRead none room = answer 1 0

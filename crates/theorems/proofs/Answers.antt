@@ -23,26 +23,24 @@ pub record Compiles (set : List ℕ) (room : ℕ) (r : Answer) (rs : RuleSet) : 
   pub said : r ≡ answer 0 (length (emitted rs))
 
 -- a test that led to another number than 0
-past : (t : Bool) (k rest : ℕ) → (k ≡ 0 → ⊥) → cond t k rest ≡ 0 → (t ≡ false) × (rest ≡ 0)
-past true k rest h e = absurd (h e)
-past false k rest h e = (refl, e)
+past : {A : Type 0} (f : A → ℕ) (t : Bool) (a b : A) → (f a ≡ 0 → ⊥) → f (cond t a b) ≡ 0 → (t ≡ false) × (f b ≡ 0)
+past f true a b h e = absurd (h e)
+past f false a b h e = (refl, e)
 
 pub indices-taken : (rs : RuleSet) → refusal rs ≡ 0 → indicesTaken rs ≡ true
 unfolding refusal
 indices-taken rs e =
-    let w2 = past (not (ascending (rs .entries))) 2 _ (λ q. omega arith) e in
-    let w3 = past (eqb (rs .mismatch) (rs .onMatch)) 3 _ (λ q. omega arith) (w2 .1) in
-    let w4 = past (not (rulesFilled rs)) 4 _ (λ q. omega arith) (w3 .1) in
-    let w5 = past (not (indicesTaken rs)) 5 0 (λ q. omega arith) (w4 .1) in
+    let w2 = past (λ n. n) (not (ascending (rs .entries))) 2 _ (λ q. omega arith) e in
+    let w3 = past (λ n. n) (eqb (rs .mismatch) (rs .onMatch)) 3 _ (λ q. omega arith) (w2 .1) in
+    let w4 = past (λ n. n) (not (rulesFilled rs)) 4 _ (λ q. omega arith) (w3 .1) in
+    let w5 = past (λ n. n) (not (indicesTaken rs)) 5 0 (λ q. omega arith) (w4 .1) in
     not-false (indicesTaken rs) (w5 .0)
 
--- a test that led to another answer than 0
-elsewhere : (t : Bool) (k n : ℕ) (rest : Answer) → (k ≡ 0 → ⊥) → (cond t (answer k n) rest) .code ≡ 0 → (t ≡ false) × (rest .code ≡ 0)
-elsewhere true k n rest h e = absurd (h e)
-elsewhere false k n rest h e = (refl, e)
+abbrev code : Answer → ℕ
+code r = r .code
 
 -- the answer to a refusal is not 0
-nothing-refused : (k : ℕ) (rest : Answer) → (cond (not (eqb k 0)) (answer k 0) rest) .code ≡ 0 → (k ≡ 0) × (rest .code ≡ 0)
+nothing-refused : (k : ℕ) (rest : Answer) → (cond (eqb k 0) rest (answer k 0)) .code ≡ 0 → (k ≡ 0) × (rest .code ≡ 0)
 nothing-refused k rest e = go (eqb k 0) refl
   where
     go : (t : Bool) → eqb k 0 ≡ t → (k ≡ 0) × (rest .code ≡ 0)
@@ -59,8 +57,8 @@ answered : (n : ℕ) (rs : RuleSet) (room : ℕ) → answerWith n rs room .code 
 unfolding answerWith
 answered n rs room e =
     let w5 = nothing-refused (refusal rs) _ e in
-    let w6 = elsewhere (leb tooMany n) 6 n _ (λ q. omega arith) (w5 .1) in
-    let w7 = elsewhere (ltb room (8 * n)) 7 n (answer 0 n) (λ q. omega arith) (w6 .1) in
+    let w6 = past code (leb tooMany n) (answer 6 n) _ (λ q. omega arith) (w5 .1) in
+    let w7 = past code (ltb room (8 * n)) (answer 7 n) (answer 0 n) (λ q. omega arith) (w6 .1) in
     record {
       nothing = w5 .0;
       short = leb-false tooMany n (w6 .0);
@@ -69,9 +67,9 @@ answered n rs room e =
     }
 
 by-read : (set : List ℕ) (room : ℕ) (r : Answer) (x : Option RuleSet) → read set ≡ x → r ≡ answerRead x room → r .code ≡ 0 → (rs : RuleSet) × Compiles set room r rs
-by-read set room r none e p z = absurd (let q = ap (λ (a : Answer). a .code) p in omega arith)
+by-read set room r none e p z = absurd (let q = ap code p in omega arith)
 by-read set room r (some rs) e p z =
-    let a = answered (length (emitted rs)) rs room (sym (ap (λ (a : Answer). a .code) p) ∙ z) in
+    let a = answered (length (emitted rs)) rs room (sym (ap code p) ∙ z) in
     (rs, record { from = e; nothing = a .nothing; short = a .short; fits = a .fits; said = p ∙ a .said })
 
 pub compiles : (set : List ℕ) (room : ℕ) (r : Answer) → r ≡ answerOf set room → r .code ≡ 0 → (rs : RuleSet) × Compiles set room r rs

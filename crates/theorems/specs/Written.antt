@@ -1,20 +1,18 @@
 -- The theorems of rule sets that are written and read part by part, as statements. Their proofs are in crates/builder/proofs, beside the
 -- writers and readers: Made.antt and Back.antt.
-use Prim.Native.Nat.{ℕ, _*_}
+use Prim.Native.Nat.{ℕ}
 use mathlib.Core.Path.{_≡_}
-use mathlib.Core.Bool.{Bool, true, cond}
+use mathlib.Core.Bool.{Bool, true}
 use mathlib.Core.List.{List, [], _∷_}
 use mathlib.Core.Option.{Option, some}
-use lib.Dec.{leb, ltb}
 use lib.ListN.{length, take}
 use Rattle.definitions.specs.declared.Condition.{Condition}
-use Rattle.definitions.specs.declared.Answer.{Answer}
 use Rattle.definitions.specs.declared.Writer.{Writer}
 use Rattle.definitions.specs.declared.Cursor.{Cursor}
 use Rattle.definitions.specs.RuleSet.{Rule, Entry, RuleSet}
 use Rattle.definitions.specs.Emitted.{emitted}
 use Rattle.definitions.specs.Format.{InRange, encode, read}
-use Rattle.definitions.specs.Answer.{ascending, rulesFilled, indicesTaken, tooMany, answer, answerOf}
+use Rattle.definitions.specs.Answer.{ascending, rulesFilled, indicesTaken, answerFitting, answerOf}
 use Rattle.definitions.specs.Parts.{lastRules}
 use Rattle.definitions.specs.Writers.{stateFits, Added, Made}
 use Rattle.definitions.specs.Readers.{headOf, entryOf, ruleOf, comparedOf, Left, HeadGiven, EntryGiven, RuleGiven, ConditionGiven}
@@ -32,10 +30,6 @@ ReadBack = (rs : RuleSet) (out : List ℕ) (w : Writer) → Made rs out w → re
 -- compiling them never says that they are not of the format
 abbrev pub OfTheFormat : Type 0
 OfTheFormat = (rs : RuleSet) (out : List ℕ) (w : Writer) → Made rs out w → (room : ℕ) → answerOf (take (w .end) out) room .code ≡ 1 → ⊥
-
--- the answer for a rule set in which nothing is refused, and whose filter has n instructions
-abbrev pub answerFitting : ℕ → ℕ → Answer
-answerFitting n room = cond (leb tooMany n) (answer 6 n) (cond (ltb room (8 * n)) (answer 7 n) (answer 0 n))
 
 -- where the numbers were listed in ascending order, the actions differ, no rule was left without conditions and no index is above 5,
 -- they compile, unless the filter is too long for the kernel or for the buffer
