@@ -10,8 +10,7 @@
 #include <string.h>
 #include <sys/mman.h>
 
-typedef struct { uint32_t code, count; } callfilter_answer;
-callfilter_answer callfilter_compile(const uint8_t *set, size_t set_len, uint8_t *out, size_t out_len);
+#include "callfilter.h"
 
 enum { AREA = 4 << 20, PAGE = 1 << 16, IN_FRONT = 64 };
 

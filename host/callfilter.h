@@ -1,0 +1,177 @@
+/* Callfilter for C and C++: every function that libcallfilter.a exports, each with its promise.
+ *
+ * The promises are proved of every input, against the definitions in crates/definitions/specs; docs/PROMISES.md has them by name. No
+ * function looks at what it was called with before: any bytes, states and cursors get their answer. Only what C cannot say is asked:
+ * a pointer is not null and has as many bytes behind it as its length says, and bytes that are written overlap no others. */
+#ifndef CALLFILTER_H
+#define CALLFILTER_H
+
+#include <stdbool.h>
+#include <stddef.h>
+#include <stdint.h>
+
+#ifdef __cplusplus
+extern "C" {
+#endif
+
+/* ---- the numbers that stand for names */
+
+enum { CALLFILTER_X86_64 = 1, CALLFILTER_AARCH64 = 2 };
+
+enum { CALLFILTER_DWORD = 4, CALLFILTER_QWORD = 8 };
+
+enum {
+    CALLFILTER_EQ = 0,
+    CALLFILTER_GE = 1,
+    CALLFILTER_GT = 2,
+    CALLFILTER_LE = 3,
+    CALLFILTER_LT = 4,
+    CALLFILTER_MASKED_EQ = 5,
+    CALLFILTER_NE = 6
+};
+
+/* actions: the words that a filter returns; errno and trace have a number in their lower half */
+#define CALLFILTER_KILL_PROCESS UINT32_C(0x80000000)
+#define CALLFILTER_KILL_THREAD UINT32_C(0x00000000)
+#define CALLFILTER_TRAP UINT32_C(0x00030000)
+#define CALLFILTER_ERRNO(number) (UINT32_C(0x00050000) | (uint16_t)(number))
+#define CALLFILTER_TRACE(number) (UINT32_C(0x7ff00000) | (uint16_t)(number))
+#define CALLFILTER_LOG UINT32_C(0x7ffc0000)
+#define CALLFILTER_ALLOW UINT32_C(0x7fff0000)
+
+/* ---- sizes, in bytes */
+
+enum {
+    CALLFILTER_LONGEST_SET = 1048576, /* a longer set is not of the format */
+    CALLFILTER_LONGEST_FILTER = 32760, /* 4,095 instructions: into a buffer of this size every set that can be is compiled */
+    CALLFILTER_CALL_SIZE = 64 /* struct seccomp_data of seccomp(2): number, architecture word, instruction pointer, six arguments */
+};
+
+/* ---- compiling */
+
+enum {
+    CALLFILTER_COMPILED = 0,
+    CALLFILTER_NOT_OF_THE_FORMAT = 1,
+    CALLFILTER_NOT_ASCENDING = 2, /* call numbers are listed in strictly ascending order */
+    CALLFILTER_EQUAL_ACTIONS = 3,
+    CALLFILTER_EMPTY_RULE = 4, /* a rule has at least one condition; a number that always matches has no rules */
+    CALLFILTER_INDEX_ABOVE_FIVE = 5,
+    CALLFILTER_TOO_MANY_INSTRUCTIONS = 6, /* 4,096 or more */
+    CALLFILTER_BUFFER_TOO_SHORT = 7
+};
+
+/* count: with codes 0, 6 and 7 how many instructions of eight bytes the filter has, else 0 */
+typedef struct {
+    uint32_t code, count;
+} callfilter_answer;
+
+/* Answers the smallest number that applies; refusing, it writes nothing. With 0 out begins with seccompiler's filter for the set, byte for
+ * byte, and the rest stays: for any call it returns what the set means, it runs no instruction twice, and the kernel's checks pass on it. */
+callfilter_answer callfilter_compile(const uint8_t *set, size_t set_len, uint8_t *out, size_t out_len);
+
+/* ---- writing a rule set part by part */
+
+enum {
+    CALLFILTER_WRITTEN = 0,
+    CALLFILTER_PART_NOT_GOOD = 1, /* a number that stands for no architecture, action, width or operator; a mask without masked eq */
+    CALLFILTER_OUT_OF_ORDER = 2, /* a rule before any number is listed, a condition before a rule is begun */
+    CALLFILTER_NO_ROOM = 3, /* copied into a longer buffer, the set can be written on with the same state */
+    CALLFILTER_SET_TOO_LONG = 4,
+    CALLFILTER_STATE_DOES_NOT_FIT = 5 /* no writer returned this state, or a start that was refused */
+};
+
+/* What became of the last part; end: how many bytes the set has; entry, rule: where the open ones are, 0 for none. A writer is handed the
+ * buffer, or a copy of it, and the state as the last one left them; with any other, too, all behind the end that is returned stays. */
+typedef struct {
+    uint32_t code, end, entry, rule;
+} callfilter_writer;
+
+/* Starts a set that lists nothing; after it, whatever parts are taken or refused, the bytes up to end are the byte form of the parts taken,
+ * read back as these, and are never answer 1. Refused (1 or 3), nothing is written, and no writer takes the state. */
+callfilter_writer callfilter_start(uint8_t *out, size_t out_len, uint32_t architecture, uint32_t mismatch, uint32_t on_match);
+
+/* Lists a number, which matches whatever its arguments are until a rule is begun for it: the set has this entry more, at its end.
+ * Refused (3, 4 or 5), nothing is written, and the state is as it came but for its code. */
+callfilter_writer callfilter_list(uint8_t *out, size_t out_len, callfilter_writer writer, uint32_t number);
+
+/* Begins a rule for the number listed last: the set has this rule more, without conditions yet.
+ * Refused (2 to 5), nothing is written, and the state is as it came but for its code. */
+callfilter_writer callfilter_begin_rule(uint8_t *out, size_t out_len, callfilter_writer writer);
+
+/* Adds a condition to the rule begun last; every index is taken here, and those above 5 are refused by compiling.
+ * Refused (1 to 5), nothing is written, and the state is as it came but for its code. */
+callfilter_writer callfilter_add_condition(uint8_t *out, size_t out_len, callfilter_writer writer, uint8_t index, uint8_t width,
+                                           uint8_t comparison, uint64_t value, uint64_t mask);
+
+/* ---- reading a rule set part by part */
+
+enum {
+    CALLFILTER_READ = 0,
+    CALLFILTER_NOT_THERE = 1, /* what should be there is not of the format */
+    CALLFILTER_NOT_ITS_TURN = 2 /* or nothing is left */
+};
+
+/* what became of the last call, the place of the next part, and how many entries, rules of the open entry and conditions of the open rule
+ * are left */
+typedef struct {
+    uint32_t code, at, entries, rules, conditions;
+} callfilter_cursor;
+
+typedef struct {
+    callfilter_cursor next;
+    uint32_t architecture, mismatch, on_match;
+} callfilter_head;
+
+typedef struct {
+    callfilter_cursor next;
+    uint32_t number;
+} callfilter_listed;
+
+typedef struct {
+    callfilter_cursor next;
+    uint8_t index, width, comparison;
+    uint64_t value, mask;
+} callfilter_compared;
+
+/* Reads the head of a set, and gives the cursor before its first entry; of a set in the format the readers give back every part in order,
+ * and then stand at its end. Where there is no head (1), all else is 0. */
+callfilter_head callfilter_read_head(const uint8_t *set, size_t set_len);
+
+/* Reads the number listed next, once every rule of the last one is read.
+ * Where that cannot be (1 or 2), the cursor is as it came but for its code. */
+callfilter_listed callfilter_next_entry(const uint8_t *set, size_t set_len, callfilter_cursor cursor);
+
+/* Goes on to the next rule, once every condition of the last one is read.
+ * Where that cannot be (1 or 2), the cursor is as it came but for its code. */
+callfilter_cursor callfilter_next_rule(const uint8_t *set, size_t set_len, callfilter_cursor cursor);
+
+/* Reads the next condition of the open rule.
+ * Where that cannot be (1 or 2), the cursor is as it came but for its code. */
+callfilter_compared callfilter_next_condition(const uint8_t *set, size_t set_len, callfilter_cursor cursor);
+
+/* ---- asking, without a kernel */
+
+enum {
+    CALLFILTER_RETURNED = 0,
+    CALLFILTER_NOT_TAKEN = 1, /* the kernel would not take the filter */
+    CALLFILTER_NOT_A_CALL = 9 /* the call is not 64 bytes */
+};
+
+/* action: the word returned; steps: how many instructions were executed; both 0 unless the code is 0 */
+typedef struct {
+    uint32_t code, action, steps;
+} callfilter_outcome;
+
+/* Whether the kernel's checks, as the definitions have them, pass on the filter.
+ * Any bytes may be offered, made by whomever. */
+bool callfilter_accepts(const uint8_t *filter, size_t filter_len);
+
+/* What the filter returns for a call, and after how many instructions, as the definitions' machine runs it.
+ * A filter that callfilter_accepts takes always returns (0); any other is not run (1). */
+callfilter_outcome callfilter_run(const uint8_t *filter, size_t filter_len, const uint8_t *call, size_t call_len);
+
+#ifdef __cplusplus
+}
+#endif
+
+#endif
