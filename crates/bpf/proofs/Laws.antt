@@ -10,7 +10,7 @@ use lib.ListN.{length, take, drop, getD, set, length-append, length-take, length
 use lib.Seq.{drop-cons, sets-eq, take-at, drop-at, take-take, take-append-le, drop-append-add, drop-drop}
 use Rattle.definitions.specs.Word.{numberOf, bytesOf, numberAt}
 use Rattle.definitions.specs.declared.Instruction.{Instruction}
-use Rattle.bpf.specs.Place.{place, placeBefore}
+use Rattle.bpf.specs.Place.{place, placeBefore, Writing}
 use Rattle.definitions.specs.Machine.{instructionBytes, filterBytes}
 
 pub number-zero : (s : List ℕ) (at : ℕ) → numberAt 0 s at ≡ 0
@@ -148,13 +148,12 @@ puts-before l at next is js e h =
 
 -- ---- a loop that writes instructions one part behind the other: what is left, written, is the whole
 
-pub record Writing (out₀ : List ℕ) (at : ℕ) (all : List Instruction) (out : List ℕ) (pos : ℕ) (left : List Instruction) : Type 0 where
-  pub same : place out pos (filterBytes left) ≡ place out₀ at (filterBytes all)
-  pub spot : pos + 8 * length left ≡ at + 8 * length all
-  pub long : length out ≡ length out₀
-
 pub write-begin : (out : List ℕ) (at : ℕ) (all : List Instruction) → Writing out at all out at all
 write-begin out at all = record { same = refl; spot = refl; long = refl }
+
+pub write-on : {out₀ : List ℕ} {at : ℕ} {all : List Instruction} {out : List ℕ} {pos : ℕ} {left : List Instruction} {out′ : List ℕ} {pos′ : ℕ} {left′ : List Instruction}
+    → Writing out₀ at all out pos left → Writing out pos left out′ pos′ left′ → Writing out₀ at all out′ pos′ left′
+write-on w v = record { same = v .same ∙ w .same; spot = v .spot ∙ w .spot; long = v .long ∙ w .long }
 
 pub write-turn : (out₀ : List ℕ) (at : ℕ) (all : List Instruction) (out : List ℕ) (pos : ℕ) (left a b : List Instruction) (out′ : List ℕ) (pos′ : ℕ)
     → at + 8 * length all ≤ length out₀ → Writing out₀ at all out pos left → left ≡ a ++ b

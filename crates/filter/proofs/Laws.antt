@@ -1,20 +1,24 @@
 -- Laws of a filter's instructions and of the places that its entries are read from: one turn of the loop, its end, and how the parts
 -- make up the whole. Assumes nothing.
 use mathlib.Core.Path.{_≡_, refl}
+use mathlib.Core.Bool.{Bool, true, false, not}
 use mathlib.Core.List.{List, [], _∷_, _++_}
-use Prim.Native.Nat.{ℕ, zero, suc, _+_, _-_, _*_, _≤_}
+use Prim.Native.Nat.{ℕ, zero, suc, _+_, _-_, _*_, _≤_, _<_}
 use native.Mathlib.Omega.{arith}
+use lib.Dec.{eqb}
 use lib.ListN.{length, length-append}
+use borrow.Author.Tests.{eq-eqb, eqb-true}
 use Rattle.definitions.specs.declared.Instruction.{Instruction}
 use Rattle.definitions.specs.Word.{numberAt}
 use Rattle.definitions.specs.Machine.{instructionBytes, filterBytes}
 use Rattle.definitions.specs.RuleSet.{architectureWord, killProcess}
 use Rattle.definitions.specs.Emitted.{load, jumpBy, ifEqual, return, rulesCode, bodyCode, entryCode, entriesCode, numbersCode, emitted}
+use Rattle.theorems.proofs.Tests.{both-true}
 use Rattle.bpf.specs.Place.{place}
 use Rattle.bpf.proofs.Laws.{put-first, put-next, puts-append}
 use Rattle.rule.specs.At.{rulesHere, rulesPast}
-use Rattle.rule.proofs.Laws.{past-further}
-use Rattle.filter.specs.At.{namedArchitecture, entryHere, entryPast, entriesHere, entriesPast, setHere}
+use Rattle.rule.proofs.Laws.{past-none, past-further}
+use Rattle.filter.specs.At.{namedArchitecture, entryHere, entryPast, entriesHere, entriesPast, plainHere, setHere}
 
 -- ---- an instruction, a run of them, and an instruction
 
@@ -75,7 +79,7 @@ unfolding entriesPast
 entries-past-more s zero at h = absurd (h refl)
 entries-past-more s (suc n) at h = let e : suc n - 1 ≡ n = omega arith in rw e
 
-entries-further : (s : List ℕ) (n at : ℕ) → at ≤ entriesPast s n at
+pub entries-further : (s : List ℕ) (n at : ℕ) → at ≤ entriesPast s n at
 unfolding entriesPast
 entries-further s zero at = omega arith
 entries-further s (suc n) at = omega (arith, entry-further s at, entries-further s n (entryPast s at))
@@ -83,6 +87,32 @@ entries-further s (suc n) at = omega (arith, entry-further s at, entries-further
 -- where all that is left ends in the bytes, the next entry does
 pub entry-inside : (s : List ℕ) (n at past : ℕ) → (n ≡ 0 → ⊥) → entriesPast s n at ≡ past → past ≤ length s → entryPast s at ≤ length s
 entry-inside s n at past h e i = omega (arith, entries-past-more s n at h, entries-further s (n - 1) (entryPast s at))
+
+-- ---- entries without rules
+
+pub plain-is : (s : List ℕ) (n at : ℕ) → plainHere s n at ≡ true → (n ≡ 0 → ⊥) × (numberAt 4 s (at + 4) ≡ 0)
+unfolding plainHere
+plain-is s n at h =
+    let p = both-true (not (eqb n 0)) (eqb (numberAt 4 s (at + 4)) 0) h in
+    (λ e. let z : _≡_ {A = ℕ} 0 1 = cc (eq-eqb n 0 e, p .0) in omega arith, eqb-true _ _ (p .1))
+
+pub plain-past : (s : List ℕ) (at : ℕ) → numberAt 4 s (at + 4) ≡ 0 → entryPast s at ≡ at + 8
+plain-past s at e = rw (entry-past s at) (past-none s (numberAt 4 s (at + 4)) (at + 8) e)
+
+pub plain-code : (s : List ℕ) (at m d : ℕ) → numberAt 4 s (at + 4) ≡ 0
+    → entryCode m d (entryHere s at) ≡ ifEqual (numberAt 4 s at) 0 1 ∷ (bodyCode m [] ++ (return d ∷ []))
+plain-code s at m d e = rw (entry-is s at m d, body-none s (numberAt 4 s (at + 4)) (at + 8) m e)
+
+pub plain-length : (s : List ℕ) (at m d : ℕ) → numberAt 4 s (at + 4) ≡ 0 → length (entryCode m d (entryHere s at)) ≡ 5
+plain-length s at m d e = rw (plain-code s at m d e, body-always m)
+
+-- where the walk over such entries ends elsewhere than it began, it has passed one
+pub plain-passed : (s : List ℕ) (n from run at : ℕ) → plainHere s n from ≡ true → plainHere s (n - run) at ≡ false → at ≡ from + 8 * run → 0 < run
+plain-passed s n from zero at h stop e =
+    let a : at ≡ from = omega arith in
+    let l : n - 0 ≡ n = omega arith in
+    absurd (let z : _≡_ {A = ℕ} 0 1 = cc in omega arith)
+plain-passed s n from (suc run) at h stop e = omega arith
 
 -- ---- the whole filter
 

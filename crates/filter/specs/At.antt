@@ -1,7 +1,7 @@
 -- The entries that stand at a place of a rule set's bytes, and the whole rule set, as total functions. They say nothing of whether the
 -- bytes are in the format: where they are, this is the rule set that the format's reader gives.
 use Prim.Native.Nat.{ℕ, zero, suc, _+_}
-use mathlib.Core.Bool.{cond}
+use mathlib.Core.Bool.{Bool, cond, not, _&&_}
 use mathlib.Core.List.{List, [], _∷_}
 use lib.Dec.{eqb}
 use Rattle.definitions.specs.Word.{numberAt}
@@ -26,6 +26,10 @@ entriesHere s (suc n) at = entryHere s at ∷ entriesHere s n (entryPast s at)
 unfoldable pub entriesPast : List ℕ → ℕ → ℕ → ℕ
 entriesPast s zero at = at
 entriesPast s (suc n) at = entriesPast s n (entryPast s at)
+
+-- whether one of n entries is left at a place, and it has no rules
+unfoldable pub plainHere : List ℕ → ℕ → ℕ → Bool
+plainHere s n at = not (eqb n 0) && eqb (numberAt 4 s (at + 4)) 0
 
 unfoldable pub setHere : List ℕ → RuleSet
 setHere s =

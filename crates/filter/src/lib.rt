@@ -2,16 +2,17 @@
 // written, so each part answers the places behind it.
 ghost use mathlib.Core.Path.{_≡_};
 ghost use mathlib.Core.List.{[], _∷_};
-ghost use Prim.Native.Nat.{_+_, _*_, _≤_};
+ghost use mathlib.Core.Bool.{true};
+ghost use Prim.Native.Nat.{_+_, _-_, _*_, _≤_, _<_};
 ghost use lib.ListN.{length};
 ghost use Rattle.definitions.specs.Word.{numberAt};
 ghost use Rattle.definitions.specs.Machine.{filterBytes};
 ghost use Rattle.definitions.specs.RuleSet.{architectureWord, killProcess};
 ghost use Rattle.definitions.specs.Emitted as emitted;
 ghost use Rattle.definitions.specs.Emitted.{bodyCode, entryCode, entriesCode, numbersCode};
-ghost use Rattle.bpf.specs.Place.{place};
+ghost use Rattle.bpf.specs.Place.{place, Writing};
 ghost use Rattle.rule.specs.At.{rulesHere, rulesPast};
-ghost use Rattle.filter.specs.At.{namedArchitecture, entryHere, entryPast, entriesHere, entriesPast, setHere};
+ghost use Rattle.filter.specs.At.{namedArchitecture, entryHere, entryPast, entriesHere, entriesPast, plainHere, setHere};
 use bpf::give;
 use bpf::if_equal;
 use bpf::jump_by;
@@ -87,6 +88,82 @@ fn put_entry(out: &mut [u8], s: &[u8], from: usize, at: usize, m: u32, d: u32) -
     }
 }
 
+// Writes an entry without rules at a place. Match action m, mismatch action d.
+fn put_listed(out: &mut [u8], s: &[u8], from: usize, at: usize, m: u32, d: u32)
+    requires { ⌜ (from + 8 ≤ length (now s)) × (length (now s) ≤ 1048576) × (numberAt 4 (now s) (from + 4) ≡ 0) × (at + 40 ≤ length (now out)) ⌝ }
+    ensures { λ _. ⌜ now (out .exit) ≡ place (now (out .entry)) at (filterBytes (entryCode m d (entryHere (now (s .entry)) from))) ⌝ }
+{
+    let listed = bpf::u32_at(s, from);
+    bpf::put(out, at, if_equal(listed, 0, 1));
+    put_always(out, at + 8, m);
+    bpf::put(out, at + 32, give(d));
+}
+
+// Whether an entry is left, and it has no rules.
+fn plain_here(s: &[u8], left: u32, at: usize) -> bool
+    requires { ⌜ (entriesPast (now s) left at ≤ length (now s)) × (length (now s) ≤ 1048576) ⌝ }
+    ensures { λ r. ⌜ r ≡ plainHere (now (s .entry)) left at ⌝ }
+{
+    if left == 0 {
+        return false;
+    }
+    let rules = bpf::u32_at(s, at + 4);
+    rules == 0
+}
+
+// Writes the first of n entries, as many as have no rules, and answers how many. They are most of most sets, so they have a loop of
+// their own, which carries little. Match action m, mismatch action d.
+fn put_plain(out: &mut [u8], s: &[u8], n: u32, from: usize, at: usize, m: u32, d: u32) -> u32
+    requires { ⌜ (entriesPast (now s) n from ≤ length (now s)) × (length (now s) ≤ 1048576) × (plainHere (now s) n from ≡ true) ⌝ }
+    requires { ⌜ at + 8 * length (entriesCode m d (entriesHere (now s) n from)) ≤ length (now out) ⌝ }
+    ensures { λ r. ⌜ Writing (now (out .entry)) at (entriesCode m d (entriesHere (now (s .entry)) n from))
+        (now (out .exit)) (at + 40 * r) (entriesCode m d (entriesHere (now (s .entry)) (n - r) (from + 8 * r)))
+        × (entriesPast (now (s .entry)) (n - r) (from + 8 * r) ≡ entriesPast (now (s .entry)) n from) × (0 < r) × (r ≤ n) × (from + 8 * r ≤ 1048576) ⌝ }
+{
+    let mut run: u32 = 0;
+    let mut past = from;
+    let mut end = at;
+    while plain_here(s, n - run, past) {
+        put_listed(out, s, past, end, m, d);
+        past = past + 8;
+        end = end + 40;
+        run = run + 1;
+    }
+    run
+}
+
+// How many entries are left, and the places behind the others, where they were written and where they were read.
+pub struct Turn {
+    pub left: u32,
+    pub end: usize,
+    pub past: usize,
+}
+
+// Writes the first of n entries: as many as have no rules, or one that has. Match action m, mismatch action d.
+fn put_turn(out: &mut [u8], s: &[u8], n: u32, from: usize, at: usize, m: u32, d: u32) -> Turn
+    requires { ⌜ (entriesPast (now s) n from ≤ length (now s)) × (length (now s) ≤ 1048576) × (n ≡ 0 → ⊥) ⌝ }
+    requires { ⌜ at + 8 * length (entriesCode m d (entriesHere (now s) n from)) ≤ length (now out) ⌝ }
+    ensures { λ r. ⌜ Writing (now (out .entry)) at (entriesCode m d (entriesHere (now (s .entry)) n from))
+        (now (out .exit)) (r .end) (entriesCode m d (entriesHere (now (s .entry)) (r .left) (r .past)))
+        × (entriesPast (now (s .entry)) (r .left) (r .past) ≡ entriesPast (now (s .entry)) n from) × (r .left < n) ⌝ }
+{
+    if plain_here(s, n, from) {
+        let run = put_plain(out, s, n, from, at, m, d);
+        let many = run as usize;
+        return Turn {
+            left: n - run,
+            end: at + 40 * many,
+            past: from + 8 * many,
+        };
+    }
+    let entry = put_entry(out, s, from, at, m, d);
+    Turn {
+        left: n - 1,
+        end: entry.end,
+        past: entry.past,
+    }
+}
+
 // Writes n entries at a place, and answers the place behind them. Match action m, mismatch action d.
 fn put_entries(out: &mut [u8], s: &[u8], n: u32, from: usize, at: usize, m: u32, d: u32) -> usize
     requires { ⌜ (entriesPast (now s) n from ≤ length (now s)) × (length (now s) ≤ 1048576) ⌝ }
@@ -98,10 +175,10 @@ fn put_entries(out: &mut [u8], s: &[u8], n: u32, from: usize, at: usize, m: u32,
     let mut past = from;
     let mut left = n;
     while left != 0 {
-        let entry = put_entry(out, s, past, end, m, d);
-        end = entry.end;
-        past = entry.past;
-        left = left - 1;
+        let turn = put_turn(out, s, left, past, end, m, d);
+        end = turn.end;
+        past = turn.past;
+        left = turn.left;
     }
     end
 }

@@ -13,8 +13,8 @@ use Rattle.definitions.specs.Word.{numberAt}
 use Rattle.definitions.specs.Machine.{instructionBytes, filterBytes}
 use Rattle.definitions.specs.RuleSet.{Rule}
 use Rattle.definitions.specs.Emitted.{jumpBy, return, conditionCode, reach, helpers, near, stepCode, stepDistance, conditionsCode, distance, ruleCode, rulesCode}
-use Rattle.bpf.specs.Place.{place, placeBefore}
-use Rattle.bpf.proofs.Laws.{length-place, place-nil, length-filterBytes, put-first, put-2, puts-before, Writing, before-is, WritingBefore}
+use Rattle.bpf.specs.Place.{place, placeBefore, Writing}
+use Rattle.bpf.proofs.Laws.{length-place, place-nil, length-filterBytes, put-first, put-2, puts-before, before-is, WritingBefore}
 use Rattle.condition.specs.Here.{conditionHere}
 use Rattle.rule.specs.At.{conditionsHere, rulesHere, rulesPast}
 

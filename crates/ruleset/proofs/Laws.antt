@@ -29,7 +29,8 @@ use Rattle.condition.proofs.Agree.{condition-agrees}
 use Rattle.rule.specs.At.{conditionsHere, rulesHere}
 use Rattle.rule.proofs.Agree.{conditions-agree, rules-agree}
 use Rattle.ruleset.specs.declared.Scan.{Scan}
-use Rattle.ruleset.specs.Scan.{widthKnown, architectureKnown, conditionTaken, notThere, Scanned, conditionsScan, ruleScan, ruleFrom, rulesScan, bodyOr, entryScan, entryFrom, ascendingFrom, entriesScan, headTaken, filterOr, setScan, setFrom}
+use Rattle.ruleset.specs.declared.Turn.{Turn}
+use Rattle.ruleset.specs.Scan.{widthKnown, architectureKnown, conditionTaken, notThere, Scanned, conditionsScan, ruleScan, ruleFrom, rulesScan, bodyOr, entryScan, entryFrom, ascendingFrom, entriesScan, plainThere, turnFrom, Turned, headTaken, filterOr, setScan, setFrom}
 
 -- ---- whether a condition stands at a place
 
@@ -342,6 +343,52 @@ entry-room s at h = go (leb (at + 8) (length s)) refl
     go false e =
         let short = ap (λ (x : Scan). x .ok) (entry-short s at (leb-false (at + 8) (length s) e)) in
         absurd (let z : _≡_ {A = ℕ} 0 1 = cc in omega arith)
+
+-- ---- entries without rules
+
+pub plain-room : (s : List ℕ) (n at : ℕ) → plainThere s n at ≡ true → (n ≡ 0 → ⊥) × (at + 8 ≤ length s) × (numberAt 4 s (at + 4) ≡ 0)
+unfolding plainThere
+plain-room s n at h =
+    let some = both-true (not (eqb n 0)) (leb (at + 8) (length s) && eqb (numberAt 4 s (at + 4)) 0) h in
+    let there = both-true (leb (at + 8) (length s)) (eqb (numberAt 4 s (at + 4)) 0) (some .1) in
+    (λ e. let z : _≡_ {A = ℕ} 0 1 = cc (eq-eqb n 0 e, some .0) in omega arith, leb-true _ _ (there .0), eqb-true _ _ (there .1))
+
+plain-entry : (s : List ℕ) (at : ℕ) → at + 8 ≤ length s → numberAt 4 s (at + 4) ≡ 0
+    → record { ok = true; past = at + 8; count = 5; filled = true; indexed = true; ascending = true } ≡ entryScan (entryAt s at)
+unfolding entryFrom
+plain-entry s at room e = rw (entry-from s at room, rules-end s (numberAt 4 s (at + 4)) (at + 8) 0 true true e, e)
+
+pub plain-turn : (s : List ℕ) (n at c : ℕ) (f i a : Bool) (l : ℕ) → plainThere s n at ≡ true
+    → entriesScan c f i a l (times (entryAt s) n at)
+    ≡ entriesScan (c + 5) f i (a && leb l (numberAt 4 s at)) (numberAt 4 s at + 1) (times (entryAt s) (n - 1) (at + 8))
+plain-turn s n at c f i a l h =
+    let p = plain-room s n at h in
+    entries-turn s n at c f i a l (record { ok = true; past = at + 8; count = 5; filled = true; indexed = true; ascending = true })
+    (p .0) (plain-entry s at (p .1) (p .2)) refl ∙ rw (and-true f, and-true i)
+
+-- where the walk over such entries ends elsewhere than it began, it has passed one
+pub plain-passed : (s : List ℕ) (n from left at : ℕ) → plainThere s n from ≡ true → plainThere s left at ≡ false
+    → at + 8 * left ≡ from + 8 * n → left ≤ n → left < n
+plain-passed s n from left at h stop spot le = go (leb n left) refl
+  where
+    go : (t : Bool) → leb n left ≡ t → left < n
+    go true e =
+        let l : left ≡ n = omega (arith, leb-true n left e) in
+        let a : at ≡ from = omega arith in
+        absurd (let z : _≡_ {A = ℕ} 0 1 = cc in omega arith)
+    go false e = leb-false n left e
+
+-- ---- a turn of the walk over entries
+
+pub turn-stopped : (s : List ℕ) (c : ℕ) (f i a : Bool) (r : Turn) → r .ok ≡ false → turnFrom s c f i a r ≡ notThere
+unfolding turnFrom
+turn-stopped s c f i a r e = rw e
+
+pub turn-taken : (s : List ℕ) (c : ℕ) (f i a : Bool) (r : Turn) → r .ok ≡ true
+    → turnFrom s c f i a r
+    ≡ entriesScan (c + r .count) (f && r .filled) (i && r .indexed) (a && r .ascending) (r .least) (times (entryAt s) (r .left) (r .past))
+unfolding turnFrom
+turn-taken s c f i a r e = rw e
 
 -- ---- the whole
 

@@ -1,6 +1,6 @@
 -- What a walk over a part of a rule set's bytes has to find, said by what the format's reader gives there. A walk carries sums along;
 -- each function here takes what was summed so far, so that a loop's invariant is one equation.
-use Prim.Native.Nat.{ℕ, _+_, _/_, _≤_}
+use Prim.Native.Nat.{ℕ, _+_, _/_, _≤_, _<_}
 use mathlib.Core.Path.{_≡_}
 use mathlib.Core.Bool.{Bool, true, false, cond, not, _&&_, _||_}
 use mathlib.Core.List.{List, [], _∷_}
@@ -9,11 +9,12 @@ use lib.Dec.{eqb, leb}
 use lib.ListN.{length, getD}
 use Rattle.definitions.specs.Word.{numberAt}
 use Rattle.definitions.specs.RuleSet.{Rule, Entry, RuleSet, isAction}
-use Rattle.definitions.specs.Format.{Read}
+use Rattle.definitions.specs.Format.{Read, times, entryAt}
 use Rattle.definitions.specs.Answer.{all, hasConditions, indexTaken, ascending, rulesFilled, indicesTaken, refusal}
 use Rattle.theorems.specs.Length.{conditionsLength, sum, ruleLength, entryLength, filterLength}
 use Rattle.ruleset.specs.declared.Scan.{Scan}
 use Rattle.ruleset.specs.declared.Judged.{Judged}
+use Rattle.ruleset.specs.declared.Turn.{Turn}
 
 unfoldable pub widthKnown : ℕ → Bool
 widthKnown w = eqb w 4 || eqb w 8
@@ -119,6 +120,21 @@ entriesScan n f i a least (some r) =
       indexed = i && all (λ (e : Entry). all (all indexTaken) (e .rules)) (r .value);
       ascending = a && ascendingFrom least (r .value);
     }
+
+-- whether one of n entries is left at a place, and it has no rules
+unfoldable pub plainThere : List ℕ → ℕ → ℕ → Bool
+plainThere s n at = not (eqb n 0) && (leb (at + 8) (length s) && eqb (numberAt 4 s (at + 4)) 0)
+
+-- n entries from a place, the least number allowed there given, from what a turn found of the first of them
+unfoldable pub turnFrom : List ℕ → ℕ → Bool → Bool → Bool → Turn → Scan
+turnFrom s n f i a r =
+    cond (r .ok)
+    (entriesScan (n + r .count) (f && r .filled) (i && r .indexed) (a && r .ascending) (r .least) (times (entryAt s) (r .left) (r .past)))
+    notThere
+
+pub record Turned (s : List ℕ) (n at least : ℕ) (r : Turn) : Type 0 where
+  pub same : (c : ℕ) (f i a : Bool) → entriesScan c f i a least (times (entryAt s) n at) ≡ turnFrom s c f i a r
+  pub inside : r .ok ≡ true → (r .past ≤ length s) × (r .count + at ≤ r .past) × (r .left < n)
 
 -- the tests of the head
 unfoldable pub headTaken : List ℕ → Bool

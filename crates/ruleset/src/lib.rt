@@ -1,14 +1,14 @@
 // Rule sets as bytes, read in one walk: whether they are of the format, whether something in them is refused, and how many instructions
 // their filter has. Nothing in the bytes is trusted: whatever a count says, the walk ends where the bytes do.
 ghost use mathlib.Core.Path.{_≡_};
-ghost use mathlib.Core.Bool.{true, _&&_};
+ghost use mathlib.Core.Bool.{true, false, _&&_};
 ghost use Prim.Native.Nat.{_+_, _≤_, _<_};
 ghost use lib.Dec.{eqb};
 ghost use lib.ListN.{length};
 ghost use Rattle.definitions.specs.Word.{numberAt};
 ghost use Rattle.definitions.specs.RuleSet.{isAction};
 ghost use Rattle.definitions.specs.Format.{isThere, times, conditionAt, ruleAt, entryAt, read};
-ghost use Rattle.ruleset.specs.Scan.{widthKnown, architectureKnown, notThere, Scanned, conditionsScan, ruleScan, rulesScan, bodyOr, entryScan, entriesScan, headTaken, filterOr, setScan, refusalFrom, judged};
+ghost use Rattle.ruleset.specs.Scan.{widthKnown, architectureKnown, notThere, Scanned, conditionsScan, ruleScan, rulesScan, bodyOr, entryScan, plainThere, Turned, entriesScan, headTaken, filterOr, setScan, refusalFrom, judged};
 use condition::condition_here;
 
 // What a walk over a part found: whether it is of the format, the place behind it, how many instructions it has, whether all its rules
@@ -214,6 +214,104 @@ fn number_at(s: &[u8], at: usize) -> u64
     n as u64
 }
 
+// What a turn of the walk over entries found: as a scan, and how many entries are left, and the least number that may come next.
+pub struct Turn {
+    pub ok: bool,
+    pub left: u32,
+    pub least: u64,
+    pub past: usize,
+    pub count: usize,
+    pub filled: bool,
+    pub indexed: bool,
+    pub ascending: bool,
+}
+
+fn no_turn() -> Turn
+    ensures { λ r. ⌜ r .ok ≡ false ⌝ }
+{
+    Turn {
+        ok: false,
+        left: 0,
+        least: 0,
+        past: 0,
+        count: 0,
+        filled: false,
+        indexed: false,
+        ascending: false,
+    }
+}
+
+// Whether an entry is left, and it has no rules.
+fn plain_there(s: &[u8], left: u32, at: usize) -> bool
+    requires { ⌜ (at ≤ length (now s)) × (length (now s) ≤ 1048576) ⌝ }
+    ensures { λ r. ⌜ r ≡ plainThere (now (s .entry)) left at ⌝ }
+{
+    if left == 0 {
+        return false;
+    }
+    if s.len() < at + 8 {
+        return false;
+    }
+    let rules = bpf::u32_at(s, at + 4);
+    rules == 0
+}
+
+// Entries without rules, as many as stand one behind the other. They are most of most sets, so they have a loop of their own, which
+// carries little.
+fn scan_plain(s: &[u8], n: u32, from: usize, first: u64) -> Turn
+    requires { ⌜ (from ≤ length (now s)) × (length (now s) ≤ 1048576) × (plainThere (now s) n from ≡ true) ⌝ }
+    ensures { λ r. ⌜ Turned (now (s .entry)) n from first r ⌝ }
+{
+    let mut ascending = true;
+    let mut count: usize = 0;
+    let mut least = first;
+    let mut at = from;
+    let mut left = n;
+    while plain_there(s, left, at) {
+        let number = number_at(s, at);
+        ascending = both(ascending, least <= number);
+        least = number + 1;
+        count = count + 5;
+        at = at + 8;
+        left = left - 1;
+    }
+    Turn {
+        ok: true,
+        left: left,
+        least: least,
+        past: at,
+        count: count,
+        filled: true,
+        indexed: true,
+        ascending: ascending,
+    }
+}
+
+// The entries without rules that stand at a place; or the one with rules.
+fn scan_turn(s: &[u8], left: u32, at: usize, least: u64) -> Turn
+    requires { ⌜ (at ≤ length (now s)) × (length (now s) ≤ 1048576) × (left ≡ 0 → ⊥) ⌝ }
+    ensures { λ r. ⌜ Turned (now (s .entry)) left at least r ⌝ }
+{
+    if plain_there(s, left, at) {
+        return scan_plain(s, left, at, least);
+    }
+    let entry = scan_entry(s, at);
+    if !entry.ok {
+        return no_turn();
+    }
+    let number = number_at(s, at);
+    Turn {
+        ok: true,
+        left: left - 1,
+        least: number + 1,
+        past: entry.past,
+        count: entry.count,
+        filled: entry.filled,
+        indexed: entry.indexed,
+        ascending: least <= number,
+    }
+}
+
 fn scan_entries(s: &[u8], n: u32, from: usize) -> Scan
     requires { ⌜ (from ≤ length (now s)) × (length (now s) ≤ 1048576) ⌝ }
     ensures { λ r. ⌜ Scanned (entriesScan 0 true true true 0 (times (entryAt (now (s .entry))) n from)) from (length (now (s .entry))) r ⌝ }
@@ -227,18 +325,17 @@ fn scan_entries(s: &[u8], n: u32, from: usize) -> Scan
     let mut at = from;
     let mut left = n;
     while left != 0 {
-        let entry = scan_entry(s, at);
-        if !entry.ok {
+        let turn = scan_turn(s, left, at, least);
+        if !turn.ok {
             return not_there();
         }
-        let number = number_at(s, at);
-        count = count + entry.count;
-        filled = both(filled, entry.filled);
-        indexed = both(indexed, entry.indexed);
-        ascending = both(ascending, least <= number);
-        least = number + 1;
-        at = entry.past;
-        left = left - 1;
+        count = count + turn.count;
+        filled = both(filled, turn.filled);
+        indexed = both(indexed, turn.indexed);
+        ascending = both(ascending, turn.ascending);
+        least = turn.least;
+        at = turn.past;
+        left = turn.left;
     }
     Scan {
         ok: true,

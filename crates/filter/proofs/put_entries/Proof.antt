@@ -1,12 +1,13 @@
 -- `put_entries` meets its contract. The loop's invariant: what is left, written here, is the whole, written there; and both are read
 -- from bytes that end at one place. Assumes nothing.
-use mathlib.Core.Path.{_≡_, refl, sym, _∙_}
+use mathlib.Core.Path.{_≡_, refl, _∙_}
 use native.Mathlib.Omega.{arith}
 use denote.Ref.{now}
-use Rattle.definitions.specs.Emitted.{entryCode, entriesCode}
-use Rattle.bpf.proofs.Laws.{Writing, write-begin, write-turn, write-room, write-end}
-use Rattle.filter.specs.At.{entryHere, entriesHere, entriesPast}
-use Rattle.filter.proofs.Laws.{entries-more, entries-none, entries-past-more, entry-inside}
+use Rattle.definitions.specs.Emitted.{entriesCode}
+use Rattle.bpf.specs.Place.{Writing}
+use Rattle.bpf.proofs.Laws.{write-begin, write-on, write-end}
+use Rattle.filter.specs.At.{entriesHere, entriesPast}
+use Rattle.filter.proofs.Laws.{entries-none}
 use Rattle.filter.proofs.put_entries.Statement.{statement}
 use Rattle.filter.proofs.put_entries.Tie as tie
 
@@ -21,34 +22,16 @@ abbrev μ-loop : tie.MeasureT-loop
 loop-holds : tie.Need-loop-holds Inv-loop μ-loop
 loop-holds c = (write-begin _ _ _, refl)
 
-put-entry-requires : tie.Need-put-entry-requires Inv-loop μ-loop
-put-entry-requires c κs =
-    let a = c .before .before .before .before .before .args in
-    let s = now (a .s) in
-    let left = c .before .before .loop .left in
-    let past = c .before .before .loop .past in
-    let more = entries-more s left past (a .m) (a .d) (c .before .loop-test .taken) in
-    let i = entry-inside s left past _ (c .before .loop-test .taken) (c .before .before .loop .inv .1) (c .before .before .before .before .before .pre .0 .0) in
-    (omega arith, write-room _ _ _ _ _ _ (entryCode (a .m) (a .d) (entryHere s past)) _ (c .before .before .before .before .before .pre .1) (c .before .before .loop .inv .0) more)
-
-sub-left : tie.Need-sub-left Inv-loop μ-loop
-sub-left c = omega arith
+put-turn-requires : tie.Need-put-turn-requires Inv-loop μ-loop
+put-turn-requires c κs =
+    let w = c .before .before .loop .inv .0 in
+    ((rw (c .before .before .loop .inv .1) (c .before .before .before .before .before .pre .0 .0), c .before .before .before .before .before .pre .0 .1, c .before .loop-test .taken), omega (arith, w .spot, w .long, c .before .before .before .before .before .pre .1))
 
 loop-less : tie.Need-loop-less Inv-loop μ-loop
-loop-less c = omega arith
+loop-less c = c .before .before .put-turn .ensures .2
 
 loop-again : tie.Need-loop-again Inv-loop μ-loop
-loop-again c =
-    let a = c .before .before .before .before .before .before .before .before .args in
-    let s = now (a .s) in
-    let left = c .before .before .before .before .before .loop .left in
-    let past = c .before .before .before .before .before .loop .past in
-    let e = c .before .before .put-entry .ensures .2 in
-    let more = entries-more s left past (a .m) (a .d) (c .before .before .before .before .loop-test .taken) in (
-      rw e (write-turn _ _ _ _ _ _ (entryCode (a .m) (a .d) (entryHere s past)) _ _ _ (c .before .before .before .before .before .before .before .before .pre .1) (c .before .before .before .before .before .loop .inv .0) more
-          (c .before .before .put-entry .ensures .0) (c .before .before .put-entry .ensures .1) (c .before .before .put-entry .kept .0)),
-      rw e (sym (entries-past-more s left past (c .before .before .before .before .loop-test .taken)) ∙ c .before .before .before .before .before .loop .inv .1),
-    )
+loop-again c = (write-on (c .before .before .before .before .before .loop .inv .0) (c .before .before .put-turn .ensures .0), c .before .before .put-turn .ensures .1 ∙ c .before .before .before .before .before .loop .inv .1)
 
 same-length : tie.Need-same-length Inv-loop μ-loop
 same-length c = c .before .loop .inv .0 .long
@@ -60,14 +43,4 @@ returns c =
 
 pub put-entries-spec : {M : Type 1} → statement M
 put-entries-spec =
-    tie.close
-    (tie.spec
-    Inv-loop
-    μ-loop
-    loop-holds
-    put-entry-requires
-    sub-left
-    loop-less
-    loop-again
-    same-length
-    returns)
+    tie.close (tie.spec Inv-loop μ-loop loop-holds put-turn-requires loop-less loop-again same-length returns)

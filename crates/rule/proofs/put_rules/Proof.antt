@@ -6,7 +6,8 @@ use native.Mathlib.Omega.{arith}
 use denote.Ref.{now}
 use Rattle.definitions.specs.Word.{numberAt}
 use Rattle.definitions.specs.Emitted.{ruleCode, rulesCode}
-use Rattle.bpf.proofs.Laws.{Writing, write-begin, write-turn, write-end}
+use Rattle.bpf.specs.Place.{Writing}
+use Rattle.bpf.proofs.Laws.{write-begin, write-turn, write-end}
 use Rattle.rule.specs.At.{conditionsHere, rulesHere, rulesPast}
 use Rattle.rule.proofs.Laws.{rule-room, rules-more, rules-none, past-more, past-none, rule-inside}
 use Rattle.rule.proofs.put_rules.Statement.{statement}
