@@ -1,6 +1,5 @@
 -- On the bytes of a rule set the readers give its parts back, in order: the theorems of crates/theorems/specs/Written.antt.
 use mathlib.Core.Path.{_≡_, refl, ap, sym, _∙_}
-use mathlib.Core.Bool.{true}
 use mathlib.Core.List.{List, [], _++_, append-assoc}
 use mathlib.Core.Option.{some}
 use Prim.Native.Nat.{ℕ, _+_, _-_, _^_, _≤_, _<_}
@@ -9,22 +8,18 @@ use native.Mathlib.Omega.{arith}
 use lib.ListN.{length, drop, getD, length-append, length-drop}
 use lib.Seq.{drop-at, drop-drop, getD-drop}
 use borrow.Author.Tests.{le-leb, eq-eqb, ne-eqb}
-use Rattle.definitions.specs.declared.Operator.{Operator}
-use Rattle.definitions.specs.declared.Operator.the-variants.{Eq, Ge, Gt, Le, Lt, MaskedEq, Ne}
-use Rattle.definitions.specs.declared.Width.{Width}
-use Rattle.definitions.specs.declared.Width.the-variants.{Dword, Qword}
 use Rattle.definitions.specs.declared.Condition.{Condition}
-use Rattle.definitions.specs.Word.{bytesOf, numberOf, numberAt}
-use Rattle.definitions.specs.RuleSet.{Architecture, x86-64, aarch64}
+use Rattle.definitions.specs.Word.{bytesOf, numberAt}
 use Rattle.definitions.specs.Format.{architectureNumber, widthNumber, operatorNumber, joined, encodeCondition, encodeRule, encodeEntry, encode}
-use Rattle.definitions.specs.Format.{MaskInRange, ConditionInRange, architectureOf, widthOf, operatorOf, maskTaken, isThere, conditionAt}
+use Rattle.definitions.specs.Format.{ConditionInRange, conditionAt}
 use Rattle.definitions.specs.Parts.{conditionOf}
 use Rattle.definitions.specs.Writers.{headGood}
 use Rattle.definitions.specs.Readers.{reaches, headOf, atEntry, atRule, entryOf, ruleOf, conditionFrom, comparedOf}
 use Rattle.theorems.specs.Written.{HeadBack, EntryBack, RuleBack, ConditionBack, AllRead}
-use Rattle.theorems.proofs.Words.{length-bytes, number-bytes, number-front}
+use Rattle.theorems.proofs.Words.{length-bytes, number-front}
 use Rattle.theorems.proofs.Taken.{action-small}
-use Rattle.builder.proofs.Sets.{few, length-condition, length-rule, length-entry}
+use Rattle.theorems.proofs.Names.{width-back, operator-back, architecture-back, architecture-byte, mask-back}
+use Rattle.theorems.proofs.Forms.{length-condition, length-rule, length-entry, short-count, zeros-front, value-front, mask-front}
 use Rattle.builder.proofs.Readers.{condition-at}
 
 -- ---- what stands at a place
@@ -49,11 +44,6 @@ left-long s p at e h = let n = sym (length-drop at s) ∙ ap length e in omega a
 
 -- ---- the head
 
-architecture-there : (a : Architecture) → (isThere (architectureOf (architectureNumber a)) ≡ true) × (architectureNumber a < 256 ^ 4)
-unfolding architectureOf architectureNumber
-architecture-there x86-64 = (refl, omega arith)
-architecture-there aarch64 = (refl, omega arith)
-
 pub head-back : HeadBack
 unfolding headOf reaches headGood encode
 head-back rs g =
@@ -65,9 +55,8 @@ head-back rs g =
     let s : List ℕ = a ++ (d ++ (m ++ (n ++ es))) in
     let long : length s ≡ 16 + length es = simp (length-append, length-bytes) (omega arith) in
     let size = g .size in
-    let known = architecture-there (rs .architecture) in
-    let few-entries = few encodeEntry (λ e. omega (arith, length-entry e)) (rs .entries) in
-    let first : numberAt 4 s 0 ≡ architectureNumber (rs .architecture) = number-here-at 4 _ s (d ++ (m ++ (n ++ es))) 0 refl (known .1) in
+    let few-entries = short-count encodeEntry (λ e. omega (arith, length-entry e)) (rs .entries) in
+    let first : numberAt 4 s 0 ≡ architectureNumber (rs .architecture) = number-here-at 4 _ s (d ++ (m ++ (n ++ es))) 0 refl (architecture-byte (rs .architecture)) in
     let second : numberAt 4 s 4 ≡ rs .mismatch = number-front-at 4 (rs .mismatch) s a (m ++ (n ++ es)) 0 4 refl (length-bytes 4 _) (action-small (rs .mismatch) (g .mismatch)) in
     let third : numberAt 4 s 8 ≡ rs .onMatch =
     number-front-at 4 (rs .onMatch) s (a ++ d) (n ++ es) 0 8 (simp append-assoc) (simp (length-append, length-bytes)) (action-small (rs .onMatch) (g .onMatch)) in
@@ -80,7 +69,7 @@ head-back rs g =
       mismatch = rs .mismatch;
       «on_match» = rs .onMatch;
     } =
-    rw (le-leb (length s) 1048576 (omega arith), le-leb (0 + 16) (length s) (omega arith), first, second, third, fourth, known .0, g .mismatch, g .onMatch) in
+    rw (le-leb (length s) 1048576 (omega arith), le-leb (0 + 16) (length s) (omega arith), first, second, third, fourth, architecture-back, g .mismatch, g .onMatch) in
     rw same
     (record {
       code = refl;
@@ -111,7 +100,7 @@ entry-back s c e es l =
     let more = joined encodeEntry es in
     let whole : drop (c .at) s ≡ number ++ (count ++ (rules ++ more)) = l .bytes ∙ simp append-assoc in
     let long = simp (length-append, length-bytes) at (left-long s (number ++ (count ++ (rules ++ more))) (c .at) whole (l .inside)) in
-    let few-rules = few encodeRule (λ r. omega (arith, length-rule r)) (e .rules) in
+    let few-rules = short-count encodeRule (λ r. omega (arith, length-rule r)) (e .rules) in
     let ranged = l .rangedEntries .0 in
     let first : numberAt 4 s (c .at) ≡ e .number = number-here-at 4 (e .number) s _ (c .at) whole (ranged .number) in
     let second : numberAt 4 s (c .at + 4) ≡ length (e .rules) =
@@ -160,7 +149,7 @@ rule-back s c r rs es l =
     let more : List ℕ = joined encodeRule rs ++ joined encodeEntry es in
     let whole : drop (c .at) s ≡ count ++ (qs ++ more) = l .bytes ∙ simp append-assoc in
     let long = simp (length-append, length-bytes) at (left-long s (count ++ (qs ++ more)) (c .at) whole (l .inside)) in
-    let few-conditions = few encodeCondition (λ q. omega (arith, length-condition q)) r in
+    let few-conditions = short-count encodeCondition (λ q. omega (arith, length-condition q)) r in
     let first : numberAt 4 s (c .at) ≡ length r = number-here-at 4 (length r) s (qs ++ more) (c .at) whole (omega (arith, l .size)) in
     let rest : drop (c .at + 4) s ≡ qs ++ more = drop-front s count (qs ++ more) (c .at) 4 whole (length-bytes 4 _) in
     let fewer : c .rules - 1 ≡ length rs = omega (arith, l .rules) in
@@ -191,50 +180,12 @@ rule-back s c r rs es l =
 
 -- ---- a condition
 
-width-back : (w : Width) → widthOf (widthNumber w) ≡ some w
-unfolding widthOf widthNumber
-width-back Dword = refl
-width-back Qword = refl
-
-operator-back : (o : Operator) → operatorOf (operatorNumber o) ≡ some o
-unfolding operatorOf operatorNumber
-operator-back Eq = refl
-operator-back Ge = refl
-operator-back Gt = refl
-operator-back Le = refl
-operator-back Lt = refl
-operator-back MaskedEq = refl
-operator-back Ne = refl
-
--- a mask in range is taken, and has room
-mask-back : (o : Operator) (m : ℕ) → MaskInRange o m → (maskTaken o m ≡ true) × (m < 256 ^ 8)
-unfolding maskTaken
-mask-back Eq m h = (eq-eqb m 0 h, omega arith)
-mask-back Ge m h = (eq-eqb m 0 h, omega arith)
-mask-back Gt m h = (eq-eqb m 0 h, omega arith)
-mask-back Le m h = (eq-eqb m 0 h, omega arith)
-mask-back Lt m h = (eq-eqb m 0 h, omega arith)
-mask-back MaskedEq m h = (refl, h)
-mask-back Ne m h = (eq-eqb m 0 h, omega arith)
-
 numbers-back : (q : Condition) → ConditionInRange q
     → conditionOf (q .index) (widthNumber (q .width)) (operatorNumber (q .operator)) (q .value) (q .mask) ≡ some q
 unfolding conditionOf
 numbers-back q g = rw (width-back, operator-back, mask-back (q .operator) (q .mask) (g .mask) .0)
 
 module _ (q : Condition) (g : ConditionInRange q) (t : List ℕ) where
-  zeros-front : numberAt 5 (encodeCondition q ++ t) 3 ≡ 0
-  unfolding encodeCondition numberAt numberOf
-  zeros-front = refl
-
-  value-front : numberAt 8 (encodeCondition q ++ t) 8 ≡ q .value
-  unfolding encodeCondition bytesOf numberAt
-  value-front = number-bytes 8 (q .value) (g .value)
-
-  mask-front : numberAt 8 (encodeCondition q ++ t) 16 ≡ q .mask
-  unfolding encodeCondition bytesOf numberAt
-  mask-front = number-bytes 8 (q .mask) (mask-back (q .operator) (q .mask) (g .mask) .1)
-
   index-front : getD (encodeCondition q ++ t) 0 0 ≡ q .index
   unfolding encodeCondition
   index-front = refl
@@ -254,7 +205,7 @@ module _ (q : Condition) (g : ConditionInRange q) (t : List ℕ) where
       let word : (w i : ℕ) → numberAt w s (at + i) ≡ numberAt w (encodeCondition q ++ t) i = λ w i. number-shift w s at i ∙ ap (λ (l : List ℕ). numberAt w l i) e in
       let first : getD s at 0 ≡ q .index = ap (λ (i : ℕ). getD s i 0) (sym (add-zero at)) ∙ byte 0 ∙ index-front in
       condition-at s at room
-      ∙ rw (word 5 3 ∙ zeros-front, first, byte 1 ∙ width-front, byte 2 ∙ operator-front, word 8 8 ∙ value-front, word 8 16 ∙ mask-front, numbers-back q g)
+      ∙ rw (word 5 3 ∙ zeros-front q g t, first, byte 1 ∙ width-front, byte 2 ∙ operator-front, word 8 8 ∙ value-front q g t, word 8 16 ∙ mask-front q g t, numbers-back q g)
 
 pub condition-back : ConditionBack
 unfolding comparedOf conditionFrom

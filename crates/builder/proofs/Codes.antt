@@ -1,25 +1,13 @@
 -- Which calls are taken: the tests of the code, and what a call that is taken knows.
 use mathlib.Core.Path.{_≡_, refl}
-use mathlib.Core.Bool.{Bool, true, false, cond, not, _&&_, _||_}
-use mathlib.Core.Option.{none, some}
+use mathlib.Core.Bool.{Bool, true, false, cond, not, _&&_}
 use Prim.Native.Nat.{ℕ, _+_, _≤_, _<_}
 use native.Mathlib.Omega.{arith}
-use lib.Dec.{eqb, leb}
+use lib.Dec.{leb}
 use borrow.Author.Tests.{leb-true}
 use Rattle.definitions.specs.declared.Writer.{Writer}
-use Rattle.definitions.specs.RuleSet.{x86-64, aarch64}
-use Rattle.definitions.specs.Format.{architectureOf, isThere}
 use Rattle.definitions.specs.Writers.{stateFits, codeFor}
 use Rattle.theorems.proofs.Tests.{both-true}
-
-pub architecture-there : (n : ℕ) → isThere (architectureOf n) ≡ (eqb n 1 || eqb n 2)
-unfolding architectureOf
-architecture-there n = go (eqb n 1) (eqb n 2)
-  where
-    go : (a b : Bool) → isThere (cond a (some x86-64) (cond b (some aarch64) none)) ≡ (a || b)
-    go true b = refl
-    go false true = refl
-    go false false = refl
 
 -- what holds of a call that is taken
 pub record Taken (g o : Bool) (more size : ℕ) (w : Writer) : Type 0 where

@@ -5,7 +5,6 @@ use mathlib.Core.List.{List, [], _∷_, _++_, append-assoc, append-nil}
 use Prim.Native.Nat.{ℕ, _+_, _≤_}
 use native.Mathlib.Omega.{arith}
 use lib.ListN.{length, take, length-append, length-take}
-use Rattle.definitions.specs.declared.Condition.{Condition}
 use Rattle.definitions.specs.Word.{bytesOf}
 use Rattle.definitions.specs.RuleSet.{Rule, Entry, RuleSet}
 use Rattle.definitions.specs.Format.{architectureNumber, joined, encodeCondition, encodeRule, encodeEntry, encode, Each, EntryInRange}
@@ -36,26 +35,6 @@ each-last P (y ∷ ys) x f p = (f .0, each-last P ys x (f .1) p)
 pub last-each : {A : Type 0} (P : A → Type 0) (front : List A) (x : A) → Each P (front ++ (x ∷ [])) → Each P front × P x
 last-each P [] x h = (tt, h .0)
 last-each P (y ∷ ys) x h = let more = last-each P ys x (h .1) in ((h .0, more .0), more .1)
-
--- ---- the counts are small: every part has a byte
-
-pub few : {A : Type 0} (enc : A → List ℕ) → ((x : A) → 1 ≤ length (enc x)) → (xs : List A) → length xs ≤ length (joined enc xs)
-few enc some-byte [] = omega arith
-few enc some-byte (x ∷ xs) =
-    let l = length-append (enc x) (joined enc xs) in
-    omega (arith, some-byte x, few enc some-byte xs)
-
-pub length-condition : (q : Condition) → length (encodeCondition q) ≡ 24
-unfolding encodeCondition bytesOf
-length-condition q = refl
-
-pub length-rule : (r : Rule) → length (encodeRule r) ≡ 4 + length (joined encodeCondition r)
-unfolding encodeRule
-length-rule r = rw (length-append, length-bytes)
-
-pub length-entry : (e : Entry) → length (encodeEntry e) ≡ 8 + length (joined encodeRule (e .rules))
-unfolding encodeEntry
-length-entry e = simp (length-append, length-bytes) (omega arith)
 
 -- ---- what stands in front of a count
 

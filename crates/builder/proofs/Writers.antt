@@ -18,13 +18,15 @@ use Rattle.definitions.specs.Parts.{onLast, onRules, started, withEntry, withRu
 use Rattle.definitions.specs.Writers.{noRule, lastRule, EntryAt, noEntry, lastEntry, Holds, codeFor, headGood, startCode, Started, Added}
 use Rattle.theorems.proofs.Words.{length-bytes}
 use Rattle.theorems.proofs.Tests.{some-same, then-some, both-true}
+use Rattle.theorems.proofs.Names.{architecture-forth}
+use Rattle.theorems.proofs.Forms.{length-condition, length-rule, length-entry, short-count}
 use Rattle.bpf.specs.Place.{place}
 use Rattle.bpf.proofs.Laws.{length-place}
 use Rattle.builder.specs.Bytes.{headBytes, conditionGood, conditionBytes}
 use Rattle.builder.proofs.Laws.{raised, length-added, kept-behind, take-front, drop-place}
 use Rattle.builder.proofs.Codes.{Taken, code-zero}
-use Rattle.builder.proofs.Names.{architecture-forth, condition-named, length-numbers, part-there}
-use Rattle.builder.proofs.Sets.{on-last, length-last, joined-last, each-last, last-each, few, length-condition, length-rule, length-entry, heading, lead, track, length-lead, length-track, encode-entries, encode-rules, encode-conditions, ended, form-added}
+use Rattle.builder.proofs.Names.{condition-named, length-numbers, part-there}
+use Rattle.builder.proofs.Sets.{on-last, length-last, joined-last, each-last, last-each, heading, lead, track, length-lead, length-track, encode-entries, encode-rules, encode-conditions, ended, form-added}
 
 -- a refusal
 pub refused : {part : Option (RuleSet → RuleSet)} {ordered : Bool} {more : ℕ} {before : List ℕ} {w : Writer} {code : ℕ} {r : Writer}
@@ -70,7 +72,7 @@ module _ (rs : RuleSet) (out : List ℕ) (w : Writer) (n : ℕ) (small : n < 2 ^
       let add : List Entry → List Entry = λ l. l ++ (bareEntry n ∷ []) in
       let spot : length (heading rs) ≡ 12 = simp (length-append, length-bytes) in
       let good : Each EntryInRange es → Each EntryInRange (add es) = λ g. each-last EntryInRange es (bareEntry n) g (record { number = small; rules = tt }) in
-      let count = few encodeEntry some-entry-byte es in
+      let count = short-count encodeEntry some-entry-byte es in
       let end = ended rs add out (w .end) 12 (length es) 8 (heading rs) (joined encodeEntry es) (part-entry n) (encode-entries rs) entry-new entry-long spot count (t .room) (t .small) good (h .form) in
       record {
         form = form-added rs add out (w .end) 12 (length es) 8 (heading rs) (joined encodeEntry es) (part-entry n) (encode-entries rs) entry-new entry-long spot count (t .room) (t .small) good (h .form);
@@ -120,7 +122,7 @@ module _ (rs : RuleSet) (out : List ℕ) (w : Writer) (t : Taken true true 4 (le
       let old = encode-rules rs front e split in
       let long = length-bytes 4 0 in
       let at : length p ≡ w .entry + 4 = length-lead rs front (e .number) ∙ rw spot in
-      let count = few encodeRule some-rule-byte (e .rules) in
+      let count = short-count encodeRule some-rule-byte (e .rules) in
       let end = ended rs (onLast addRule) out (w .end) (w .entry + 4) k 4 p q (bytesOf 4 0) old rule-new long at count (t .room) (t .small) rule-good (h .form) in
       record {
         form = form-added rs (onLast addRule) out (w .end) (w .entry + 4) k 4 p q (bytesOf 4 0) old rule-new long at count (t .room) (t .small) rule-good (h .form);
@@ -187,7 +189,7 @@ module _ (rs : RuleSet) (out : List ℕ) (w : Writer) (q : Condition) (ranged : 
       let p = track rs front (e .number) rules in
       let old = encode-conditions rs front e rules r split cut in
       let at : length p ≡ w .rule = length-track rs front (e .number) rules ∙ rw (place-of, spot) in
-      let count = few encodeCondition some-condition-byte r in
+      let count = short-count encodeCondition some-condition-byte r in
       record {
         form = form-added rs (onLast (addCondition q)) out (w .end) (w .rule) (length r) 24 p (joined encodeCondition r) (encodeCondition q) old condition-new (length-condition q) at count (t .room) (t .small) condition-ranged (h .form);
         fits = omega (arith, length-added out (w .end) (w .rule) (encodeCondition q) (rw length-condition (t .room)) (omega (arith, t .room, t .rule)), t .room);

@@ -8,7 +8,6 @@ ghost use Prim.Native.Nat.{_+_, _≤_, _<_};
 ghost use lib.Dec.{eqb};
 ghost use lib.ListN.{length};
 ghost use Rattle.definitions.specs.Word.{bytesOf, numberAt};
-ghost use Rattle.definitions.specs.Format.{architectureOf, widthOf, isThere};
 ghost use Rattle.definitions.specs.Parts.{withEntry, withRule, conditionPart};
 ghost use Rattle.definitions.specs.Writers.{stateFits, codeFor, headGood, Started, Added};
 ghost use Rattle.definitions.specs.Readers as readers;
@@ -97,19 +96,10 @@ fn verdict(size: usize, w: Writer, good: bool, ordered: bool, more: usize) -> u3
     0
 }
 
-fn architecture_known(a: u32) -> bool
-    ensures { λ r. ⌜ r ≡ isThere (architectureOf a) ⌝ }
-{
-    if a == 1 {
-        return true;
-    }
-    a == 2
-}
-
 fn head_good(architecture: u32, mismatch: u32, on_match: u32) -> bool
     ensures { λ r. ⌜ r ≡ headGood architecture mismatch «on_match» ⌝ }
 {
-    if !architecture_known(architecture) {
+    if !ruleset::architecture_known(architecture) {
         return false;
     }
     if !ruleset::is_action(mismatch) {
@@ -203,20 +193,11 @@ pub fn begin_rule(out: &mut [u8], w: Writer) -> Writer
     }
 }
 
-fn width_known(width: u8) -> bool
-    ensures { λ r. ⌜ r ≡ isThere (widthOf width) ⌝ }
-{
-    if width == 4 {
-        return true;
-    }
-    width == 8
-}
-
 // Whether the format has a condition of these numbers.
 fn condition_good(width: u8, operator: u8, mask: u64) -> bool
     ensures { λ r. ⌜ r ≡ conditionGood width operator mask ⌝ }
 {
-    if !width_known(width) {
+    if !ruleset::width_known(width) {
         return false;
     }
     if 6 < operator {

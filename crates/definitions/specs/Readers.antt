@@ -10,7 +10,8 @@ use lib.ListN.{length, drop}
 use Rattle.definitions.specs.declared.Condition.{Condition}
 use Rattle.definitions.specs.Word.{numberAt}
 use Rattle.definitions.specs.RuleSet.{Rule, Entry, RuleSet}
-use Rattle.definitions.specs.Format.{architectureNumber, widthNumber, operatorNumber, joined, encodeCondition, encodeRule, encodeEntry, Each, ConditionInRange, EntryInRange, Read, conditionAt}
+use Rattle.definitions.specs.Format.{architectureNumber, widthNumber, operatorNumber, joined, encodeCondition, encodeRule, encodeEntry}
+use Rattle.definitions.specs.Format.{Each, ConditionInRange, EntryInRange, Read, conditionAt}
 use Rattle.definitions.specs.declared.Cursor.{Cursor}
 use Rattle.definitions.specs.declared.Head.{Head}
 use Rattle.definitions.specs.declared.Listed.{Listed}

@@ -81,7 +81,7 @@ pub record Added (part : Option (RuleSet → RuleSet)) (ordered : Bool) (more : 
 pub data Made : RuleSet → List ℕ → Writer → Type 0 where
   begun : (a d m : ℕ) (known : Architecture) (before after : List ℕ) (r : Writer) → Started a d m before after r → r .code ≡ 0
       → architectureOf a ≡ some known → Made (started known d m) after r
-  taken : (part : Option (RuleSet → RuleSet)) (ordered : Bool) (more : ℕ) (add : RuleSet → RuleSet) (rs : RuleSet) (before after : List ℕ) (w r : Writer)
-      → Made rs before w → Added part ordered more before after w r → r .code ≡ 0 → part ≡ some add → Made (add rs) after r
+  taken : (part : Option (RuleSet → RuleSet)) (ordered : Bool) (more : ℕ) (add : RuleSet → RuleSet) (rs : RuleSet) (before after : List ℕ)
+      (w r : Writer) → Made rs before w → Added part ordered more before after w r → r .code ≡ 0 → part ≡ some add → Made (add rs) after r
   refused : (part : Option (RuleSet → RuleSet)) (ordered : Bool) (more : ℕ) (rs : RuleSet) (before after : List ℕ) (w r : Writer)
       → Made rs before w → Added part ordered more before after w r → (r .code ≡ 0 → ⊥) → Made rs after r

@@ -3,26 +3,23 @@ use mathlib.Core.Path.{_≡_, refl, ap, sym, _∙_}
 use mathlib.Core.Bool.{Bool, true, false, cond, not, _&&_, _||_, and-true, and-assoc}
 use mathlib.Core.List.{List, [], _∷_}
 use mathlib.Core.Option.{Option, none, some}
-use Prim.Native.Nat.{ℕ, zero, suc, _+_, _-_, _*_, _/_, _≤_, _<_}
+use Prim.Native.Nat.{ℕ, zero, suc, _+_, _-_, _/_, _≤_, _<_}
 use native.Mathlib.Nat.{add-zero, zero-add, add-comm, add-assoc}
 use native.Mathlib.Numerals.{add-one}
 use native.Mathlib.Omega.{arith}
 use lib.Dec.{eqb, leb}
 use lib.ListN.{length, getD}
-use borrow.Author.Tests.{leb-true, leb-false, eqb-true, le-leb, lt-leb, eq-eqb, ne-eqb}
-use Rattle.definitions.specs.declared.Operator.{Operator}
-use Rattle.definitions.specs.declared.Operator.the-variants.{Eq, Ge, Gt, Le, Lt, MaskedEq, Ne}
-use Rattle.definitions.specs.declared.Width.{Width}
-use Rattle.definitions.specs.declared.Width.the-variants.{Dword, Qword}
+use borrow.Author.Tests.{leb-true, leb-false, le-leb, lt-leb, eq-eqb, ne-eqb}
 use Rattle.definitions.specs.declared.Condition.{Condition}
 use Rattle.definitions.specs.Word.{numberAt, AreBytes}
-use Rattle.definitions.specs.RuleSet.{Architecture, x86-64, aarch64, Rule, Entry, RuleSet, isAction}
+use Rattle.definitions.specs.RuleSet.{Architecture, Rule, Entry, isAction}
 use Rattle.definitions.specs.Format.{isThere, Read, then, check, times, architectureOf, widthOf, operatorOf, maskTaken, conditionAt, ruleAt, entryAt, read}
 use Rattle.definitions.specs.Answer.{all, hasConditions, indexTaken, ascending}
-use Rattle.definitions.specs.Emitted.{stepCode, stepDistance, conditionsCode}
+use Rattle.definitions.specs.Emitted.{stepCode, stepDistance}
 use Rattle.theorems.specs.Length.{conditionsLength, sum, ruleLength, bodyLength, entryLength, filterLength}
+use Rattle.theorems.proofs.Names.{operator-there}
 use Rattle.theorems.proofs.Lengths.{length-step}
-use Rattle.theorems.proofs.Tests.{check-some, then-some, some-same, both-true, true-both}
+use Rattle.theorems.proofs.Tests.{check-some, then-some, some-same, both-true}
 use Rattle.bpf.proofs.Laws.{number-suc}
 use Rattle.condition.specs.Here.{conditionHere}
 use Rattle.condition.proofs.Agree.{condition-agrees}
@@ -30,7 +27,7 @@ use Rattle.rule.specs.At.{conditionsHere, rulesHere}
 use Rattle.rule.proofs.Agree.{conditions-agree, rules-agree}
 use Rattle.ruleset.specs.declared.Scan.{Scan}
 use Rattle.ruleset.specs.declared.Turn.{Turn}
-use Rattle.ruleset.specs.Scan.{widthKnown, architectureKnown, conditionTaken, notThere, Scanned, conditionsScan, ruleScan, ruleFrom, rulesScan, bodyOr, entryScan, entryFrom, ascendingFrom, entriesScan, plainThere, turnFrom, Turned, headTaken, filterOr, setScan, setFrom}
+use Rattle.ruleset.specs.Scan.{conditionTaken, notThere, Scanned, conditionsScan, ruleScan, ruleFrom, rulesScan, bodyOr, entryScan, entryFrom, ascendingFrom, entriesScan, plainThere, turnFrom, Turned, headTaken, filterOr, setScan, setFrom}
 
 -- ---- whether a condition stands at a place
 
@@ -38,47 +35,9 @@ there-check : {A : Type 0} (t : Bool) (x : Option A) → isThere (check t x) ≡
 there-check true x = refl
 there-check false x = refl
 
-there-some : {A : Type 0} (t : Bool) (a : A) → isThere (check t (some a)) ≡ t
-there-some true a = refl
-there-some false a = refl
-
 there-then : {A B : Type 0} (x : Option A) (f : A → Option B) (t : Bool) → ((a : A) → isThere (f a) ≡ t) → isThere (then x f) ≡ (isThere x && t)
 there-then none f t h = refl
 there-then (some a) f t h = h a
-
-width-there : (n : ℕ) → isThere (widthOf n) ≡ widthKnown n
-unfolding widthOf widthKnown
-width-there n = go (eqb n 4) (eqb n 8)
-  where
-    go : (a b : Bool) → isThere (cond a (some Dword) (cond b (some Qword) none)) ≡ (a || b)
-    go true b = refl
-    go false true = refl
-    go false false = refl
-
-operator-there : {A : Type 0} (n m : ℕ) (x : Operator → A)
-    → isThere (then (operatorOf n) (λ o. check (maskTaken o m) (some (x o)))) ≡ (leb n 6 && (eqb n 5 || eqb m 0))
-unfolding operatorOf maskTaken
-operator-there zero m x = there-some (eqb m 0) (x Eq)
-operator-there (suc zero) m x = there-some (eqb m 0) (x Ge)
-operator-there (suc (suc zero)) m x = there-some (eqb m 0) (x Gt)
-operator-there (suc (suc (suc zero))) m x = there-some (eqb m 0) (x Le)
-operator-there (suc (suc (suc (suc zero)))) m x = there-some (eqb m 0) (x Lt)
-operator-there (suc (suc (suc (suc (suc zero))))) m x = refl
-operator-there (suc (suc (suc (suc (suc (suc zero)))))) m x = there-some (eqb m 0) (x Ne)
-operator-there (suc (suc (suc (suc (suc (suc (suc k))))))) m x = above (suc (suc (suc (suc (suc (suc (suc k))))))) (omega arith)
-  where
-    above : (n : ℕ) → 6 < n → isThere (then (operatorOf n) (λ o. check (maskTaken o m) (some (x o)))) ≡ (leb n 6 && (eqb n 5 || eqb m 0))
-    above n h =
-        rw (
-          lt-leb n 6 h,
-          ne-eqb n 0 (omega arith),
-          ne-eqb n 1 (omega arith),
-          ne-eqb n 2 (omega arith),
-          ne-eqb n 3 (omega arith),
-          ne-eqb n 4 (omega arith),
-          ne-eqb n 5 (omega arith),
-          ne-eqb n 6 (omega arith),
-        )
 
 -- the five bytes behind index, width and operator are what is above the lowest three of eight
 zeros-above : (s : List ℕ) (at : ℕ) → AreBytes s → at + 8 ≤ length s → numberAt 8 s at / 16777216 ≡ numberAt 5 s (at + 3)
@@ -105,11 +64,11 @@ condition-there s at bytes = go (leb (at + 24) (length s)) refl
     go : (t : Bool) → leb (at + 24) (length s) ≡ t
         → isThere (check (t && eqb (numberAt 5 s (at + 3)) 0) rest)
         ≡ (t && (eqb (numberAt 8 s at / 16777216) 0
-        && (widthKnown (getD s (at + 1) 0) && (leb (getD s (at + 2) 0) 6 && (eqb (getD s (at + 2) 0) 5 || eqb (numberAt 8 s (at + 16)) 0)))))
+        && (isThere (widthOf (getD s (at + 1) 0)) && (leb (getD s (at + 2) 0) 6 && (eqb (getD s (at + 2) 0) 5 || eqb (numberAt 8 s (at + 16)) 0)))))
     go false e = refl
     go true e =
         let room = leb-true (at + 24) (length s) e in
-        rw (zeros-above s at bytes (omega arith), there-check, ← width-there (getD s (at + 1) 0))
+        rw (zeros-above s at bytes (omega arith), there-check)
         (ap (λ (b : Bool). eqb (numberAt 5 s (at + 3)) 0 && b)
         (there-then (widthOf (getD s (at + 1) 0)) _ _ (λ w. operator-there (getD s (at + 2) 0) (numberAt 8 s (at + 16)) _)))
 
@@ -415,15 +374,6 @@ unfolding filterLength
 filter-count n [] e = rw (eq-eqb n 0 (sym e))
 filter-count n (x ∷ es) e = rw (ne-eqb n 0 (omega arith)) (omega arith)
 
-architecture-there : (n : ℕ) → architectureKnown n ≡ isThere (architectureOf n)
-unfolding architectureKnown architectureOf
-architecture-there n = go (eqb n 1) (eqb n 2)
-  where
-    go : (a b : Bool) → (a || b) ≡ isThere (cond a (some x86-64) (cond b (some aarch64) none))
-    go true b = refl
-    go false true = refl
-    go false false = refl
-
 -- the entries are there: what the set's scan is, from theirs
 entries-there : (size n : ℕ) (a : Architecture) (d m : ℕ) (r : Read (List Entry)) → length (r .value) ≡ n
     → setScan size (check (eqb (r .past) size) (some (record { architecture = a; mismatch = d; onMatch = m; entries = r .value })))
@@ -484,9 +434,8 @@ pub set-from : (s : List ℕ)
     ≡ setFrom (length s) (numberAt 4 s 12) (headTaken s) (entriesScan 0 true true true 0 (times (entryAt s) (numberAt 4 s 12) 16))
 unfolding read setFrom headTaken
 set-from s =
-    rw (architecture-there (numberAt 4 s 0))
-    (set-by (length s) (numberAt 4 s 12) (times (entryAt s) (numberAt 4 s 12) 16) (λ r e. times-length (entryAt s) (numberAt 4 s 12) 16 e)
-    (leb (length s) 1048576) (leb 16 (length s)) (isAction (numberAt 4 s 4)) (isAction (numberAt 4 s 8)) (architectureOf (numberAt 4 s 0)) (numberAt 4 s 4) (numberAt 4 s 8))
+    set-by (length s) (numberAt 4 s 12) (times (entryAt s) (numberAt 4 s 12) 16) (λ r e. times-length (entryAt s) (numberAt 4 s 12) 16 e)
+    (leb (length s) 1048576) (leb 16 (length s)) (isAction (numberAt 4 s 4)) (isAction (numberAt 4 s 8)) (architectureOf (numberAt 4 s 0)) (numberAt 4 s 4) (numberAt 4 s 8)
 
 -- ---- what a walk returns
 

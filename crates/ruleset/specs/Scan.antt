@@ -9,25 +9,19 @@ use lib.Dec.{eqb, leb}
 use lib.ListN.{length, getD}
 use Rattle.definitions.specs.Word.{numberAt}
 use Rattle.definitions.specs.RuleSet.{Rule, Entry, RuleSet, isAction}
-use Rattle.definitions.specs.Format.{Read, times, entryAt}
+use Rattle.definitions.specs.Format.{architectureOf, widthOf, isThere, Read, times, entryAt}
 use Rattle.definitions.specs.Answer.{all, hasConditions, indexTaken, ascending, rulesFilled, indicesTaken, refusal}
 use Rattle.theorems.specs.Length.{conditionsLength, sum, ruleLength, entryLength, filterLength}
 use Rattle.ruleset.specs.declared.Scan.{Scan}
 use Rattle.ruleset.specs.declared.Judged.{Judged}
 use Rattle.ruleset.specs.declared.Turn.{Turn}
 
-unfoldable pub widthKnown : ℕ → Bool
-widthKnown w = eqb w 4 || eqb w 8
-
-unfoldable pub architectureKnown : ℕ → Bool
-architectureKnown a = eqb a 1 || eqb a 2
-
 -- the tests of a condition's 24 bytes, in the order of the code
 unfoldable pub conditionTaken : List ℕ → ℕ → Bool
 conditionTaken s at =
     leb (at + 24) (length s)
     && (eqb (numberAt 8 s at / 16777216) 0
-    && (widthKnown (getD s (at + 1) 0)
+    && (isThere (widthOf (getD s (at + 1) 0))
     && (leb (getD s (at + 2) 0) 6 && (eqb (getD s (at + 2) 0) 5 || eqb (numberAt 8 s (at + 16)) 0))))
 
 abbrev pub notThere : Scan
@@ -138,7 +132,7 @@ pub record Turned (s : List ℕ) (n at least : ℕ) (r : Turn) : Type 0 where
 
 -- the tests of the head
 unfoldable pub headTaken : List ℕ → Bool
-headTaken s = architectureKnown (numberAt 4 s 0) && (isAction (numberAt 4 s 4) && isAction (numberAt 4 s 8))
+headTaken s = isThere (architectureOf (numberAt 4 s 0)) && (isAction (numberAt 4 s 4) && isAction (numberAt 4 s 8))
 
 abbrev pub filterOr : ℕ → ℕ → ℕ
 filterOr n entries = cond (eqb n 0) 4 (entries + 5)

@@ -7,8 +7,8 @@ ghost use lib.Dec.{eqb};
 ghost use lib.ListN.{length};
 ghost use Rattle.definitions.specs.Word.{numberAt};
 ghost use Rattle.definitions.specs.RuleSet.{isAction};
-ghost use Rattle.definitions.specs.Format.{isThere, times, conditionAt, ruleAt, entryAt, read};
-ghost use Rattle.ruleset.specs.Scan.{widthKnown, architectureKnown, notThere, Scanned, conditionsScan, ruleScan, rulesScan, bodyOr, entryScan, plainThere, Turned, entriesScan, headTaken, filterOr, setScan, refusalFrom, judged};
+ghost use Rattle.definitions.specs.Format.{architectureOf, widthOf, isThere, times, conditionAt, ruleAt, entryAt, read};
+ghost use Rattle.ruleset.specs.Scan.{notThere, Scanned, conditionsScan, ruleScan, rulesScan, bodyOr, entryScan, plainThere, Turned, entriesScan, headTaken, filterOr, setScan, refusalFrom, judged};
 use condition::condition_here;
 
 // What a walk over a part found: whether it is of the format, the place behind it, how many instructions it has, whether all its rules
@@ -44,22 +44,24 @@ fn both(a: bool, b: bool) -> bool
     false
 }
 
-fn width_known(w: u8) -> bool
-    ensures { λ r. ⌜ r ≡ widthKnown w ⌝ }
+// Whether a number stands for a width.
+pub fn width_known(width: u8) -> bool
+    ensures { λ r. ⌜ r ≡ isThere (widthOf width) ⌝ }
 {
-    if w == 4 {
+    if width == 4 {
         return true;
     }
-    w == 8
+    width == 8
 }
 
-fn architecture_known(a: u32) -> bool
-    ensures { λ r. ⌜ r ≡ architectureKnown a ⌝ }
+// Whether a number stands for an architecture.
+pub fn architecture_known(architecture: u32) -> bool
+    ensures { λ r. ⌜ r ≡ isThere (architectureOf architecture) ⌝ }
 {
-    if a == 1 {
+    if architecture == 1 {
         return true;
     }
-    a == 2
+    architecture == 2
 }
 
 // Whether a condition of the format stands at a place.

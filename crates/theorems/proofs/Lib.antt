@@ -11,6 +11,8 @@ pub mod Scratch
 pub mod Taken
 pub mod Words
 pub mod Bytes
+pub mod Names
+pub mod Forms
 pub mod RoundTrip
 pub mod Grows
 pub mod Answers

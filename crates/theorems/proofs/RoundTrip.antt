@@ -1,11 +1,10 @@
 -- ROUND TRIP: reading what was written gives the rule set back, and bytes of the format are what is written of the rule set read from
 -- them. So the reader needs no belief, and two different byte strings never are one rule set.
 use mathlib.Core.Path.{_≡_, refl, ap, sym, _∙_}
-use mathlib.Core.Logic.{_↔_}
-use mathlib.Core.Bool.{Bool, true, false, cond, _&&_}
+use mathlib.Core.Bool.{true, _&&_}
 use mathlib.Core.List.{List, [], _∷_, _++_, append-assoc, append-nil}
-use mathlib.Core.Option.{Option, none, some}
-use Prim.Native.Nat.{ℕ, zero, suc, _+_, _*_, _^_, _≤_, _<_}
+use mathlib.Core.Option.{Option, some}
+use Prim.Native.Nat.{ℕ, zero, suc, _+_, _^_, _≤_, _<_}
 use native.Mathlib.Nat.{add-zero, add-assoc}
 use native.Mathlib.Omega.{arith}
 use lib.Dec.{eqb, leb}
@@ -13,20 +12,20 @@ use lib.ListN.{length, drop, getD, length-append}
 use lib.Seq.{drop-length}
 use borrow.Author.Tests.{eqb-true, leb-true, eq-eqb, le-leb}
 use Rattle.definitions.specs.declared.Operator.{Operator}
-use Rattle.definitions.specs.declared.Operator.the-variants.{Eq, Ge, Gt, Le, Lt, MaskedEq, Ne}
 use Rattle.definitions.specs.declared.Width.{Width}
-use Rattle.definitions.specs.declared.Width.the-variants.{Dword, Qword}
 use Rattle.definitions.specs.declared.Condition.{Condition}
-use Rattle.definitions.specs.Word.{bytesOf, numberOf, numberAt, AreBytes}
-use Rattle.definitions.specs.RuleSet.{Architecture, x86-64, aarch64, Rule, Entry, RuleSet, isAction}
+use Rattle.definitions.specs.Word.{bytesOf, numberAt, AreBytes}
+use Rattle.definitions.specs.RuleSet.{Architecture, Rule, Entry, RuleSet, isAction}
 use Rattle.definitions.specs.Format.{architectureNumber, widthNumber, operatorNumber, joined, encodeCondition, encodeRule, encodeEntry, encode}
-use Rattle.definitions.specs.Format.{Each, MaskInRange, ConditionInRange, EntryInRange, InRange}
-use Rattle.definitions.specs.Format.{architectureOf, widthOf, operatorOf, maskTaken, Read, then, check, times, conditionAt, ruleAt, entryAt, read}
+use Rattle.definitions.specs.Format.{Each, ConditionInRange, EntryInRange, InRange}
+use Rattle.definitions.specs.Format.{architectureOf, widthOf, operatorOf, maskTaken, Read, then, times, conditionAt, ruleAt, entryAt, read}
 use Rattle.theorems.specs.Statements.{RoundTrip, OneForm}
-use Rattle.theorems.proofs.Tests.{both-true, true-both, each-both, then-some, check-some, some-same}
+use Rattle.theorems.proofs.Tests.{both-true, each-both, then-some, check-some, some-same}
 use Rattle.theorems.proofs.Taken.{action-small}
 use Rattle.theorems.proofs.Conditions.{compared}
-use Rattle.theorems.proofs.Words.{length-bytes, number-bytes, number-here, number-past, number-front, byte-here, byte-past, number-drop, byte-drop, number-at-small}
+use Rattle.theorems.proofs.Names.{width-back, operator-back, architecture-back, architecture-byte, mask-back, width-forth, operator-forth, architecture-forth, mask-forth}
+use Rattle.theorems.proofs.Forms.{length-condition, length-rule, length-entry, short-count, zeros-front, value-front, mask-front}
+use Rattle.theorems.proofs.Words.{length-bytes, number-here, number-past, number-front, byte-here, byte-past, number-drop, byte-drop, number-at-small}
 
 -- ---- written, then read
 
@@ -53,68 +52,6 @@ short-each enc [] n h = tt
 short-each enc (x ∷ xs) n h =
     let l = length-append (enc x) (joined enc xs) in
     (omega arith, short-each enc xs n (omega arith))
-
-short-count : {A : Type 0} (enc : A → List ℕ) → ((x : A) → 1 ≤ length (enc x)) → (xs : List A) → length xs ≤ length (joined enc xs)
-short-count enc some-byte [] = omega arith
-short-count enc some-byte (x ∷ xs) =
-    let l = length-append (enc x) (joined enc xs) in
-    omega (arith, some-byte x, short-count enc some-byte xs)
-
--- ---- names and numbers
-
-width-back : (w : Width) → widthOf (widthNumber w) ≡ some w
-unfolding widthOf widthNumber
-width-back Dword = refl
-width-back Qword = refl
-
-operator-back : (o : Operator) → operatorOf (operatorNumber o) ≡ some o
-unfolding operatorOf operatorNumber
-operator-back Eq = refl
-operator-back Ge = refl
-operator-back Gt = refl
-operator-back Le = refl
-operator-back Lt = refl
-operator-back MaskedEq = refl
-operator-back Ne = refl
-
-architecture-back : (a : Architecture) → architectureOf (architectureNumber a) ≡ some a
-unfolding architectureOf architectureNumber
-architecture-back x86-64 = refl
-architecture-back aarch64 = refl
-
-architecture-byte : (a : Architecture) → architectureNumber a < 256 ^ 4
-unfolding architectureNumber
-architecture-byte x86-64 = omega arith
-architecture-byte aarch64 = omega arith
-
--- a mask in range is taken, and has room
-mask-back : (o : Operator) (m : ℕ) → MaskInRange o m → (maskTaken o m ≡ true) × (m < 256 ^ 8)
-unfolding maskTaken
-mask-back Eq m h = (eq-eqb m 0 h, omega arith)
-mask-back Ge m h = (eq-eqb m 0 h, omega arith)
-mask-back Gt m h = (eq-eqb m 0 h, omega arith)
-mask-back Le m h = (eq-eqb m 0 h, omega arith)
-mask-back Lt m h = (eq-eqb m 0 h, omega arith)
-mask-back MaskedEq m h = (refl, h)
-mask-back Ne m h = (eq-eqb m 0 h, omega arith)
-
-length-condition : (q : Condition) → length (encodeCondition q) ≡ 24
-unfolding encodeCondition bytesOf
-length-condition q = refl
-
--- what stands in the 24 bytes of a condition
-module _ (q : Condition) (g : ConditionInRange q) (t : List ℕ) where
-  zeros-front : numberAt 5 (encodeCondition q ++ t) 3 ≡ 0
-  unfolding encodeCondition numberAt numberOf
-  zeros-front = refl
-
-  value-front : numberAt 8 (encodeCondition q ++ t) 8 ≡ q .value
-  unfolding encodeCondition bytesOf numberAt
-  value-front = number-bytes 8 (q .value) (g .value)
-
-  mask-front : numberAt 8 (encodeCondition q ++ t) 16 ≡ q .mask
-  unfolding encodeCondition bytesOf numberAt
-  mask-front = number-bytes 8 (q .mask) (mask-back (q .operator) (q .mask) (g .mask) .1)
 
 -- a condition is read from what stands at its offsets
 condition-read : (bs : List ℕ) (at : ℕ) (q : Condition) → at + 24 ≤ length bs → numberAt 5 bs (at + 3) ≡ 0
@@ -148,10 +85,6 @@ each-map : {A : Type 0} {P Q : A → Type 0} → ((x : A) → P x → Q x) → (
 each-map f [] p = tt
 each-map f (x ∷ xs) p = (f x (p .0), each-map f xs (p .1))
 
-length-rule : (r : Rule) → length (encodeRule r) ≡ 4 + length (joined encodeCondition r)
-unfolding encodeRule
-length-rule r = rw (length-append, length-bytes)
-
 rule-back : (r : Rule) → RuleFits r → Backs ruleAt encodeRule r
 unfolding ruleAt encodeRule
 rule-back r g p t at e =
@@ -169,10 +102,6 @@ rule-back r g p t at e =
 
 abbrev EntryFits : Entry → Type 0
 EntryFits e = EntryInRange e × (length (encodeEntry e) < 2 ^ 32)
-
-length-entry : (e : Entry) → length (encodeEntry e) ≡ 8 + length (joined encodeRule (e .rules))
-unfolding encodeEntry
-length-entry e = simp (length-append, length-bytes) (omega arith)
 
 entry-back : (x : Entry) → EntryFits x → Backs entryAt encodeEntry x
 unfolding entryAt encodeEntry
@@ -261,44 +190,6 @@ times-forth enc P bs f one (suc n) at r h =
       record { here = first .here ∙ rw append-assoc (ap (λ (l : List ℕ). enc (w .0 .value) ++ l) (more .0 .here)); good = (first .good, more .0 .good) },
       ap suc (more .1),
     )
-
--- ---- names and numbers
-
-none-some : {A P : Type 0} {y : A} → none ≡ some y → P
-none-some h = absurd (let z : _≡_ {A = ℕ} 0 1 = cc in omega arith)
-
--- a row of a table of names: x, whose number is k
-pick : {A : Type 0} (number : A → ℕ) (n k : ℕ) (x : A) {y : A} {rest : Option A} → number x ≡ k → (rest ≡ some y → number y ≡ n)
-    → cond (eqb n k) (some x) rest ≡ some y → number y ≡ n
-pick number n k x {y} {rest} e more h = go (eqb n k) refl h
-  where
-    go : (t : Bool) → eqb n k ≡ t → cond t (some x) rest ≡ some y → number y ≡ n
-    go true p q = rw (← some-same q) (e ∙ sym (eqb-true n k p))
-    go false p q = more q
-
-width-forth : (n : ℕ) (w : Width) → widthOf n ≡ some w → widthNumber w ≡ n
-unfolding widthOf widthNumber
-width-forth n w = pick widthNumber n 4 Dword refl (pick widthNumber n 8 Qword refl none-some)
-
-operator-forth : (n : ℕ) (o : Operator) → operatorOf n ≡ some o → operatorNumber o ≡ n
-unfolding operatorOf operatorNumber
-operator-forth n o =
-    pick operatorNumber n 0 Eq refl (pick operatorNumber n 1 Ge refl (pick operatorNumber n 2 Gt refl (pick operatorNumber n 3 Le refl
-    (pick operatorNumber n 4 Lt refl (pick operatorNumber n 5 MaskedEq refl (pick operatorNumber n 6 Ne refl none-some))))))
-
-architecture-forth : (n : ℕ) (a : Architecture) → architectureOf n ≡ some a → architectureNumber a ≡ n
-unfolding architectureOf architectureNumber
-architecture-forth n a = pick architectureNumber n 1 x86-64 refl (pick architectureNumber n 2 aarch64 refl none-some)
-
-mask-forth : (o : Operator) (m : ℕ) → m < 2 ^ 64 → maskTaken o m ≡ true → MaskInRange o m
-unfolding maskTaken
-mask-forth Eq m s h = eqb-true m 0 h
-mask-forth Ge m s h = eqb-true m 0 h
-mask-forth Gt m s h = eqb-true m 0 h
-mask-forth Le m s h = eqb-true m 0 h
-mask-forth Lt m s h = eqb-true m 0 h
-mask-forth MaskedEq m s h = s
-mask-forth Ne m s h = eqb-true m 0 h
 
 five-zeros : bytesOf 5 0 ≡ 0 ∷ 0 ∷ 0 ∷ 0 ∷ 0 ∷ []
 unfolding bytesOf

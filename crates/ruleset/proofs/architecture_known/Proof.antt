@@ -1,16 +1,14 @@
 -- `architecture_known` meets its contract: one test after the other.
 use borrow.Author.Tests.{eq-eqb, ne-eqb}
-use Rattle.ruleset.specs.Scan.{architectureKnown}
+use Rattle.theorems.proofs.Names.{architecture-there}
 use Rattle.ruleset.proofs.architecture_known.Statement.{statement}
 use Rattle.ruleset.proofs.architecture_known.Tie as tie
 
 returns : tie.Need-returns
-unfolding architectureKnown
-returns c = rw (eq-eqb _ _ (c .if1 .taken))
+returns c = rw (architecture-there, eq-eqb _ _ (c .if1 .taken))
 
 returns-2 : tie.Need-returns-2
-unfolding architectureKnown
-returns-2 c = rw (ne-eqb _ _ (c .if1 .left))
+returns-2 c = rw (architecture-there, ne-eqb _ _ (c .if1 .left))
 
 pub architecture-known-spec : {M : Type 1} → statement M
 architecture-known-spec = tie.close (tie.spec returns returns-2)
