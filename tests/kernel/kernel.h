@@ -1,8 +1,9 @@
-// What the files of this test share: the proved functions, and filters with calls for them that the kernel is asked about.
+// What the files of this test share: filters with calls for them, which the proved functions and the kernel are asked about.
 
 #ifndef KERNEL_H
 #define KERNEL_H
 
+#include "callfilter.h"
 #include <linux/audit.h>
 #include <linux/filter.h>
 #include <linux/seccomp.h>
@@ -10,9 +11,7 @@
 #include <stddef.h>
 #include <stdint.h>
 
-typedef struct { uint32_t code, action, steps; } callfilter_outcome;
-bool callfilter_accepts(const uint8_t *filter, size_t filter_len);
-callfilter_outcome callfilter_run(const uint8_t *filter, size_t filter_len, const uint8_t *data, size_t data_len);
+callfilter_outcome callfilter_decide(const uint8_t *set, size_t set_len, const uint8_t *call, size_t call_len);
 
 typedef struct sock_filter instruction;
 typedef struct seccomp_data call;
@@ -96,8 +95,9 @@ void show_difference(const question *q, int at, judge by, const char *name);
 _Noreturn void fail(const char *why);                           // the whole test, where it cannot be made
 bool ended_with(uint64_t passed, uint64_t failed);              // prints the last line
 
-// ---- programs.c
+// ---- programs.c and sets.c: the two parts, each ending with its line 'N passed, M failed'
 
 bool compare_programs(batch *asked, uint64_t seed, uint64_t first, uint64_t count);
+bool compare_sets(batch *asked, uint64_t seed, uint64_t first);
 
 #endif

@@ -1,6 +1,7 @@
 // Holds the proved functions to the kernel of the machine it runs on.
 //
 //     compare programs SEED FIRST COUNT    random filters and calls, for callfilter_accepts and callfilter_run
+//     compare sets SEED FIRST              rule sets and calls from standard input, for callfilter_compile and callfilter_decide
 
 #include "kernel.h"
 #include <stdio.h>
@@ -11,5 +12,6 @@ int main(int count, char **words) {
     setvbuf(stdout, NULL, _IOLBF, 1 << 16);
     uint64_t seed = count > 2 ? strtoull(words[2], NULL, 10) : 0, first = count > 3 ? strtoull(words[3], NULL, 10) : 0;
     if (count == 5 && strcmp(words[1], "programs") == 0) return !compare_programs(kernel_ready(), seed, first, strtoull(words[4], NULL, 10));
-    fail("usage: compare programs SEED FIRST COUNT");
+    if (count == 4 && strcmp(words[1], "sets") == 0) return !compare_sets(kernel_ready(), seed, first);
+    fail("usage: compare programs SEED FIRST COUNT, or compare sets SEED FIRST");
 }

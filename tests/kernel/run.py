@@ -1,9 +1,10 @@
 #!/usr/bin/env python3
-"""Holds the proved functions to the kernel of this machine, by seccomp(2), on random filters and calls. Where a filter cannot be
-installed or the program not be built, that is a failure: nothing else here knows the real kernel.
+"""Holds the proved functions to the kernel of this machine, by seccomp(2): random filters and calls, then compiled rule sets and calls.
+Where a filter cannot be installed or the program not be built, that is a failure: nothing else here knows the real kernel.
 
-    run.py [--seed N] [--programs N]
-    run.py --seed N --program N      one filter again"""
+    run.py [--seed N] [--programs N] [--sets N]
+    run.py --seed N --program N      one filter again
+    run.py --seed N --set N          one rule set again"""
 import argparse
 import pathlib
 import re
@@ -37,11 +38,23 @@ def programs(compare, seed, first, count):
     return run([compare, "programs", seed, first, count])
 
 
+def sets(compare, seed, first, count):
+    print("-- compiled rule sets", flush=True)
+    with subprocess.Popen([sys.executable, HERE / "sets.py", *map(str, (seed, first, count))], stdout=subprocess.PIPE) as drawing:
+        counts = run([compare, "sets", seed, first], drawing.stdout)
+    if drawing.returncode:
+        print(f"FAILED: the sets were not all drawn, status {drawing.returncode}")
+        return 0, 1, 0
+    return counts
+
+
 def main():
     parser = argparse.ArgumentParser()
     parser.add_argument("--seed", type=int, default=20240501)
     parser.add_argument("--programs", type=int, default=30000, help="how many random filters")
+    parser.add_argument("--sets", type=int, default=1500, help="how many rule sets")
     parser.add_argument("--program", type=int, help="only the filter with this number")
+    parser.add_argument("--set", type=int, help="only the rule set with this number")
     options = parser.parse_args()
     try:
         archive.build()
@@ -52,8 +65,10 @@ def main():
         return 1
     if options.program is not None:
         results = [programs(compare, options.seed, options.program, 1)]
+    elif options.set is not None:
+        results = [sets(compare, options.seed, options.set, 1)]
     else:
-        results = [programs(compare, options.seed, 0, options.programs)]
+        results = [programs(compare, options.seed, 0, options.programs), sets(compare, options.seed, 0, options.sets)]
     passed, failed, skipped = map(sum, zip(*results))
     print(f"{passed} passed, {failed} failed" + (f", {skipped} skipped" if skipped else ""))
     return 1 if failed else 0
