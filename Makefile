@@ -1,7 +1,10 @@
+demo:
+	@bash host/demo.sh
+
 test:
 	bash .ci/run
 
 bench:
 	python3 bench/run.py
 
-.PHONY: test bench
+.PHONY: demo test bench

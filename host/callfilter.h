@@ -151,13 +151,14 @@ callfilter_compared callfilter_next_condition(const uint8_t *set, size_t set_len
 
 /* ---- asking, without a kernel */
 
+/* of decide, the codes 1 to 5 are those of compiling */
 enum {
     CALLFILTER_RETURNED = 0,
-    CALLFILTER_NOT_TAKEN = 1, /* the kernel would not take the filter */
+    CALLFILTER_NOT_TAKEN = 1, /* of run: the kernel would not take the filter */
     CALLFILTER_NOT_A_CALL = 9 /* the call is not 64 bytes */
 };
 
-/* action: the word returned; steps: how many instructions were executed; both 0 unless the code is 0 */
+/* action: the word that is returned; steps: of run, how many instructions were executed; both 0 unless the code is 0 */
 typedef struct {
     uint32_t code, action, steps;
 } callfilter_outcome;
@@ -169,6 +170,10 @@ bool callfilter_accepts(const uint8_t *filter, size_t filter_len);
 /* What the filter returns for a call, and after how many instructions, as the definitions' machine runs it.
  * A filter that callfilter_accepts takes always returns (0); any other is not run (1). */
 callfilter_outcome callfilter_run(const uint8_t *filter, size_t filter_len, const uint8_t *call, size_t call_len);
+
+/* What the set means for a call, straight from the bytes of both: where the set compiles, its filter returns this action for the call.
+ * A set of which compiling answers 1 to 5 gets that number; one whose filter is too long has its meaning all the same. */
+callfilter_outcome callfilter_decide(const uint8_t *set, size_t set_len, const uint8_t *call, size_t call_len);
 
 #ifdef __cplusplus
 }

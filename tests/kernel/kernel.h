@@ -11,8 +11,6 @@
 #include <stddef.h>
 #include <stdint.h>
 
-callfilter_outcome callfilter_decide(const uint8_t *set, size_t set_len, const uint8_t *call, size_t call_len);
-
 typedef struct sock_filter instruction;
 typedef struct seccomp_data call;
 

@@ -1,0 +1,245 @@
+//! Rule sets: which calls match, and what becomes of them.
+
+use std::collections::BTreeMap;
+use std::fmt;
+use std::ops::Deref;
+
+use crate::{boundary, reading, writing, Action, Architecture, Call, Condition, Error, Filter};
+
+/// Conditions that must all hold.
+pub type Rule = Vec<Condition>;
+
+/// Which calls match, and which action there is for those that do and those that do not.
+///
+/// - A call from another architecture kills the process, whatever else.
+/// - A call that is not listed gets the mismatch action.
+/// - A call that is listed without rules gets the match action.
+/// - A call that is listed with rules gets the match action if one of them has all its conditions true, else the mismatch action.
+///
+/// Calls may be listed in any order. Naming a call once more goes on with its rules.
+///
+/// ```
+/// use callfilter::{Action, Architecture, Condition, Operator, RuleSet, Width};
+///
+/// let mut set = RuleSet::new(Architecture::X86_64, Action::Errno(1), Action::Allow);
+/// for number in [231, 60, 0] {
+///     set.call(number);
+/// }
+/// let to_standard_output = Condition::new(0, Width::Dword, Operator::Eq, 1)?;
+/// set.call(1).rule(&[to_standard_output]);
+/// assert_eq!(
+///     set.to_string(),
+///     "on x86_64: allow what matches, else errno 1; on any other architecture: kill process
+/// call 0 matches
+/// call 1 matches if argument 0 (low 32 bits) = 1
+/// call 60 matches
+/// call 231 matches"
+/// );
+/// # Ok::<(), callfilter::Error>(())
+/// ```
+///
+/// A rule belongs to a call, so there is none without one:
+///
+/// ```compile_fail,E0599
+/// # use callfilter::{Action, Architecture, Condition, Operator, RuleSet, Width};
+/// let mut set = RuleSet::new(Architecture::X86_64, Action::KillProcess, Action::Allow);
+/// set.rule(&[]);
+/// ```
+#[derive(Clone, Debug, PartialEq, Eq)]
+pub struct RuleSet {
+    architecture: Architecture,
+    mismatch: Action,
+    on_match: Action,
+    calls: BTreeMap<u32, Vec<Rule>>,
+}
+
+impl RuleSet {
+    /// A set that lists nothing yet. The two actions must differ when it is compiled.
+    pub fn new(architecture: Architecture, mismatch: Action, on_match: Action) -> RuleSet {
+        RuleSet { architecture, mismatch, on_match, calls: BTreeMap::new() }
+    }
+
+    /// Lists a call. It matches whatever its arguments are, unless it has rules.
+    ///
+    /// A number below 0 cannot be written:
+    ///
+    /// ```compile_fail,E0600
+    /// # use callfilter::{Action, Architecture, RuleSet};
+    /// # let mut set = RuleSet::new(Architecture::X86_64, Action::KillProcess, Action::Allow);
+    /// set.call(-1);
+    /// ```
+    pub fn call(&mut self, number: u32) -> Listed<'_> {
+        self.calls.entry(number).or_default();
+        Listed { set: self, number }
+    }
+
+    /// Compiles the set.
+    ///
+    /// ```
+    /// use callfilter::{Action, Architecture, Error, RuleSet};
+    ///
+    /// let mut set = RuleSet::new(Architecture::X86_64, Action::Log, Action::Allow);
+    /// assert_eq!(set.compile()?.len(), 4);
+    /// assert_eq!(set.call(7).rule(&[]).compile(), Err(Error::EmptyRule { call: 7, rule: 0 }));
+    ///
+    /// let error = RuleSet::new(Architecture::X86_64, Action::Allow, Action::Allow).compile().unwrap_err();
+    /// assert_eq!(error.to_string(), "the action is allow whether a call matches or not: a filter needs two different actions");
+    /// # Ok::<(), Error>(())
+    /// ```
+    pub fn compile(&self) -> Result<Filter, Error> {
+        Filter::compile(&self.to_bytes()?)
+    }
+
+    /// What the set means for a call: the action that its filter returns. A set that cannot be compiled is refused here too, unless it is
+    /// only for the length of its filter.
+    ///
+    /// ```
+    /// use callfilter::{Action, Architecture, Call, RuleSet};
+    ///
+    /// let mut set = RuleSet::new(Architecture::X86_64, Action::Trap, Action::Allow);
+    /// set.call(39);
+    /// assert_eq!(set.decide(&Call::new(Architecture::X86_64, 39, [0; 6]))?, Action::Allow);
+    /// assert_eq!(set.decide(&Call::new(Architecture::X86_64, 40, [0; 6]))?, Action::Trap);
+    /// assert_eq!(set.decide(&Call::new(Architecture::Aarch64, 39, [0; 6]))?, Action::KillProcess);
+    /// # Ok::<(), callfilter::Error>(())
+    /// ```
+    pub fn decide(&self, call: &Call) -> Result<Action, Error> {
+        let set = self.to_bytes()?;
+        let ended = boundary::decide(&set, &call.to_bytes());
+        if ended.code != 0 {
+            return Err(reading::refusal(boundary::Answer { code: ended.code, count: 0 }, &set));
+        }
+        Ok(Action::from_word(ended.action).expect("a set has no other actions"))
+    }
+
+    /// The set as bytes, which has one form only.
+    ///
+    /// ```
+    /// use callfilter::{Action, Architecture, RuleSet};
+    ///
+    /// let mut set = RuleSet::new(Architecture::X86_64, Action::Errno(1), Action::Allow);
+    /// set.call(257);
+    /// let bytes = set.to_bytes()?;
+    /// assert_eq!(bytes, [1, 0, 0, 0, 1, 0, 5, 0, 0, 0, 255, 127, 1, 0, 0, 0, 1, 1, 0, 0, 0, 0, 0, 0]);
+    /// assert_eq!(RuleSet::from_bytes(&bytes)?, set);
+    /// # Ok::<(), callfilter::Error>(())
+    /// ```
+    pub fn to_bytes(&self) -> Result<Vec<u8>, Error> {
+        writing::bytes_of(self)
+    }
+
+    /// Reads a set back from its bytes. Any bytes may be offered; those that can be no filter whatever its length are refused.
+    ///
+    /// ```
+    /// use callfilter::{Error, RuleSet};
+    ///
+    /// assert_eq!(RuleSet::from_bytes(&[1, 2, 3]), Err(Error::NotOfTheFormat));
+    /// ```
+    pub fn from_bytes(bytes: &[u8]) -> Result<RuleSet, Error> {
+        reading::set_of(bytes)
+    }
+
+    /// The architecture that the set is for.
+    pub fn architecture(&self) -> Architecture {
+        self.architecture
+    }
+
+    /// What becomes of a call that does not match.
+    pub fn mismatch(&self) -> Action {
+        self.mismatch
+    }
+
+    /// What becomes of a call that matches.
+    pub fn on_match(&self) -> Action {
+        self.on_match
+    }
+
+    /// The calls that are listed, by ascending number, and the rules of each.
+    ///
+    /// ```
+    /// use callfilter::{Action, Architecture, RuleSet};
+    ///
+    /// let mut set = RuleSet::new(Architecture::Aarch64, Action::Trap, Action::Allow);
+    /// set.call(64);
+    /// set.call(63);
+    /// assert!(set.calls().map(|(number, _)| number).eq([63, 64]));
+    /// ```
+    pub fn calls(&self) -> impl Iterator<Item = (u32, &[Rule])> {
+        self.calls.iter().map(|(number, rules)| (*number, rules.as_slice()))
+    }
+}
+
+/// A call that was just listed, open for its rules.
+///
+/// ```
+/// use callfilter::{Action, Architecture, Condition, Error, Operator, RuleSet, Width};
+///
+/// // 0 to 9, but not 5
+/// let below_ten = Condition::new(0, Width::Qword, Operator::Lt, 10)?;
+/// let not_five = Condition::new(0, Width::Qword, Operator::Ne, 5)?;
+/// let filter = RuleSet::new(Architecture::X86_64, Action::Trap, Action::Allow).call(2).rule(&[below_ten, not_five]).compile()?;
+/// # assert_eq!(filter.len(), 19);
+/// # Ok::<(), Error>(())
+/// ```
+///
+/// The set cannot be used for anything else in between:
+///
+/// ```compile_fail,E0502
+/// # use callfilter::{Action, Architecture, RuleSet};
+/// # let mut set = RuleSet::new(Architecture::X86_64, Action::Trap, Action::Allow);
+/// let listed = set.call(2);
+/// let filter = set.compile();
+/// listed.rule(&[]);
+/// ```
+#[derive(Debug)]
+pub struct Listed<'a> {
+    set: &'a mut RuleSet,
+    number: u32,
+}
+
+impl<'a> Listed<'a> {
+    /// Adds a rule: from now on the call matches only if some rule of it has all its conditions true. A rule without conditions is refused
+    /// when the set is compiled.
+    pub fn rule(self, conditions: &[Condition]) -> Listed<'a> {
+        self.set.calls.entry(self.number).or_default().push(conditions.to_vec());
+        self
+    }
+
+    /// Lists another call, and leaves this one.
+    pub fn call(self, number: u32) -> Listed<'a> {
+        self.set.call(number)
+    }
+}
+
+impl Deref for Listed<'_> {
+    type Target = RuleSet;
+
+    fn deref(&self) -> &RuleSet {
+        self.set
+    }
+}
+
+impl fmt::Display for RuleSet {
+    /// The set in words, a rule to a line.
+    fn fmt(&self, to: &mut fmt::Formatter) -> fmt::Result {
+        write!(to, "on {}: {} what matches, else {}; on any other architecture: ", self.architecture, self.on_match, self.mismatch)?;
+        write!(to, "{}", Action::KillProcess)?;
+        for (number, rules) in self.calls() {
+            let listed = format!("call {number} matches");
+            write!(to, "\n{listed}")?;
+            for (place, rule) in rules.iter().enumerate() {
+                if place == 0 {
+                    write!(to, " if {}", in_words(rule))?;
+                } else {
+                    write!(to, "\n{:>width$} {}", "or", in_words(rule), width = listed.len() + 3)?;
+                }
+            }
+        }
+        Ok(())
+    }
+}
+
+fn in_words(rule: &[Condition]) -> String {
+    let conditions: Vec<String> = rule.iter().map(Condition::to_string).collect();
+    conditions.join(" and ")
+}

@@ -1,0 +1,101 @@
+//! The worked set: its bytes, its filter and what becomes of calls, spelled out.
+
+use callfilter::{Action, Architecture, Call, Condition, Error, Filter, Operator, RuleSet, Width};
+
+const SET: &str = "
+    01000000 01000500 0000ff7f 03000000
+    00000000 00000000
+    01000000 01000000 01000000 0004000000000000 0100000000000000 0000000000000000
+    01010000 02000000 01000000 0208050000000000 0000000000000000 0300000000000000
+                      01000000 0108010000000000 0000000001000000 0000000000000000";
+
+const FILTER: &str = "
+    2000000004000000 150001003e0000c0 0600000000000080 2000000000000000 1500000100000000 0500000001000000
+    0500000002000000 060000000000ff7f 0600000001000500 1500000101000000 0500000001000000 0500000004000000
+    2000000010000000 1500000101000000 060000000000ff7f 0600000001000500 1500000101010000 0500000001000000
+    0500000008000000 2000000024000000 5400000000000000 1500000400000000 2000000020000000 5400000003000000
+    1500000100000000 060000000000ff7f 0500000001000000 0500000007000000 200000001c000000 2500030001000000
+    1500000301000000 2000000018000000 3500000100000000 060000000000ff7f 0600000001000500 0600000001000500";
+
+fn bytes(hex: &str) -> Vec<u8> {
+    let digits: Vec<u32> = hex.chars().filter_map(|digit| digit.to_digit(16)).collect();
+    digits.chunks_exact(2).map(|pair| (16 * pair[0] + pair[1]) as u8).collect()
+}
+
+fn worked_set() -> Result<RuleSet, Error> {
+    let mut set = RuleSet::new(Architecture::X86_64, Action::Errno(1), Action::Allow);
+    // not in the order of the bytes, and one call in two goes
+    set.call(257).rule(&[Condition::new(2, Width::Qword, Operator::MaskedEq(3), 0)?]);
+    set.call(1).rule(&[Condition::new(0, Width::Dword, Operator::Eq, 1)?]);
+    set.call(0).call(257).rule(&[Condition::new(1, Width::Qword, Operator::Ge, 1 << 32)?]);
+    Ok(set)
+}
+
+#[test]
+fn its_bytes_are_those_of_the_format_and_read_back() {
+    let set = worked_set().unwrap();
+    assert_eq!(set.to_bytes(), Ok(bytes(SET)));
+    assert_eq!(RuleSet::from_bytes(&bytes(SET)), Ok(set));
+}
+
+#[test]
+fn its_filter_is_the_one_spelled_out() {
+    let filter = worked_set().unwrap().compile().unwrap();
+    assert_eq!(filter.len(), 36);
+    assert_eq!(filter.to_bytes(), bytes(FILTER));
+    assert_eq!(Filter::compile(&bytes(SET)).as_ref(), Ok(&filter));
+    assert_eq!(Filter::from_bytes(&bytes(FILTER)), Ok(filter));
+}
+
+#[test]
+fn its_filter_returns_what_it_means_for_ten_calls() {
+    let set = worked_set().unwrap();
+    let filter = set.compile().unwrap();
+    let x86_64 = Architecture::X86_64;
+    for (call, action, steps) in [
+        (Call::new(x86_64, 0, [0; 6]), Action::Allow, 6),
+        (Call::new(x86_64, 1, [1, 0, 0, 0, 0, 0]), Action::Allow, 10),
+        (Call::new(x86_64, 1, [(1 << 32) + 1, 0, 0, 0, 0, 0]), Action::Allow, 10),
+        (Call::new(x86_64, 1, [2, 0, 0, 0, 0, 0]), Action::Errno(1), 10),
+        (Call::new(x86_64, 257, [0, 0, 4, 0, 0, 0]), Action::Allow, 16),
+        (Call::new(x86_64, 257, [0, 0, 1, 0, 0, 0]), Action::Errno(1), 20),
+        (Call::new(x86_64, 257, [0, 1 << 32, 1, 0, 0, 0]), Action::Allow, 22),
+        (Call::new(x86_64, 257, [0, (1 << 32) - 1, 2, 0, 0, 0]), Action::Errno(1), 20),
+        (Call::new(x86_64, 2, [0; 6]), Action::Errno(1), 11),
+        (Call::new(Architecture::Aarch64, 0, [0; 6]), Action::KillProcess, 3),
+    ] {
+        let outcome = filter.run(&call);
+        assert_eq!((outcome.word, outcome.action(), outcome.steps), (action.word(), Some(action), steps), "{call:?}");
+        assert_eq!(set.decide(&call), Ok(action), "{call:?}");
+    }
+}
+
+#[test]
+fn every_operator_and_width_compares_as_it_says() {
+    let around = |edge: u64| [edge.wrapping_sub(1), edge, edge.wrapping_add(1)];
+    let numbers: Vec<u64> = [0, 1 << 31, 1 << 32, 5 << 32, 1 << 63].into_iter().flat_map(around).collect();
+    let mask = 0x8000_0001_8000_0003;
+    for width in [Width::Dword, Width::Qword] {
+        let cut = |number: u64| if width == Width::Dword { number & 0xffff_ffff } else { number };
+        for operator in [Operator::Eq, Operator::Ne, Operator::Ge, Operator::Gt, Operator::Le, Operator::Lt, Operator::MaskedEq(mask)] {
+            for (value, argument) in numbers.iter().flat_map(|value| numbers.iter().map(move |argument| (*value, *argument))) {
+                let (one, two) = (cut(argument), cut(value));
+                let holds = match operator {
+                    Operator::Eq => one == two,
+                    Operator::Ne => one != two,
+                    Operator::Ge => one >= two,
+                    Operator::Gt => one > two,
+                    Operator::Le => one <= two,
+                    Operator::Lt => one < two,
+                    Operator::MaskedEq(mask) => one & mask == two & mask,
+                };
+                let mut set = RuleSet::new(Architecture::Aarch64, Action::Trap, Action::Log);
+                set.call(7).rule(&[Condition::new(5, width, operator, value).unwrap()]);
+                let call = Call::new(Architecture::Aarch64, 7, [9, 9, 9, 9, 9, argument]);
+                let action = if holds { Action::Log } else { Action::Trap };
+                assert_eq!(set.compile().unwrap().run(&call).action(), Some(action), "{set} {argument:#x}");
+                assert_eq!(set.decide(&call), Ok(action), "{set} {argument:#x}");
+            }
+        }
+    }
+}

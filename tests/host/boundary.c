@@ -1,0 +1,254 @@
+/* Calls every exported function through callfilter.h, from C and, compiled once more, from C++: the worked set written, read back, compiled,
+ * run and decided, and each refusal once. The last line is 'N passed, M failed'. */
+#include <stdio.h>
+#include <string.h>
+
+#include "callfilter.h"
+
+static int passed, failed;
+
+#define CHECK(what) check((what), #what, __LINE__)
+
+static void check(bool good, const char *what, int line) {
+    if (good) {
+        passed++;
+    } else {
+        failed++;
+        printf("FAILED line %d: %s\n", line, what);
+    }
+}
+
+static const uint8_t WORKED_SET[124] = {
+    1, 0, 0, 0, 1, 0, 5, 0, 0, 0, 0xff, 0x7f, 3, 0, 0, 0, /* x86_64, errno 1, allow; 3 entries */
+    0, 0, 0, 0, 0, 0, 0, 0, /* 0: no rules */
+    1, 0, 0, 0, 1, 0, 0, 0, /* 1: a rule */
+    1, 0, 0, 0, 0, 4, 0, 0, 0, 0, 0, 0, 1, 0, 0, 0, 0, 0, 0, 0, 0, 0, 0, 0, 0, 0, 0, 0, /* argument 0 dword eq 1 */
+    1, 1, 0, 0, 2, 0, 0, 0, /* 257: two rules */
+    1, 0, 0, 0, 2, 8, 5, 0, 0, 0, 0, 0, 0, 0, 0, 0, 0, 0, 0, 0, 3, 0, 0, 0, 0, 0, 0, 0, /* argument 2 qword masked eq 0, mask 3 */
+    1, 0, 0, 0, 1, 8, 1, 0, 0, 0, 0, 0, 0, 0, 0, 0, 1, 0, 0, 0, 0, 0, 0, 0, 0, 0, 0, 0 /* argument 1 qword ge 2^32 */
+};
+
+enum { ROOM = 160 };
+
+/* what a writer must leave alone: all from its set's end on */
+static uint8_t buffer[ROOM];
+
+static bool untouched_from(size_t end) {
+    for (size_t at = end; at < ROOM; at++)
+        if (buffer[at] != 0xa5) return false;
+    return true;
+}
+
+static bool same_but_for_code(callfilter_writer one, callfilter_writer two) {
+    return one.end == two.end && one.entry == two.entry && one.rule == two.rule;
+}
+
+static void refused(callfilter_writer after, callfilter_writer before, uint32_t code) {
+    CHECK(after.code == code && same_but_for_code(after, before));
+    CHECK(untouched_from(before.end));
+}
+
+static void written(void) {
+    memset(buffer, 0xa5, ROOM);
+    callfilter_writer writer = callfilter_start(buffer, ROOM, 3, CALLFILTER_ERRNO(1), CALLFILTER_ALLOW);
+    CHECK(writer.code == CALLFILTER_PART_NOT_GOOD && untouched_from(0));
+    writer = callfilter_start(buffer, 15, CALLFILTER_X86_64, CALLFILTER_ERRNO(1), CALLFILTER_ALLOW);
+    CHECK(writer.code == CALLFILTER_NO_ROOM && untouched_from(0));
+
+    writer = callfilter_start(buffer, ROOM, CALLFILTER_X86_64, CALLFILTER_ERRNO(1), CALLFILTER_ALLOW);
+    CHECK(writer.code == CALLFILTER_WRITTEN && writer.end == 16 && untouched_from(16));
+    refused(callfilter_begin_rule(buffer, ROOM, writer), writer, CALLFILTER_OUT_OF_ORDER);
+    refused(callfilter_list(buffer, 23, writer, 0), writer, CALLFILTER_NO_ROOM);
+
+    writer = callfilter_list(buffer, ROOM, writer, 0);
+    CHECK(writer.code == CALLFILTER_WRITTEN && writer.end == 24 && writer.entry == 16 && writer.rule == 0 && untouched_from(24));
+    writer = callfilter_list(buffer, ROOM, writer, 1);
+    refused(callfilter_add_condition(buffer, ROOM, writer, 0, CALLFILTER_DWORD, CALLFILTER_EQ, 1, 0), writer, CALLFILTER_OUT_OF_ORDER);
+    writer = callfilter_begin_rule(buffer, ROOM, writer);
+    CHECK(writer.code == CALLFILTER_WRITTEN && writer.end == 36 && writer.entry == 24 && writer.rule == 32 && untouched_from(36));
+    refused(callfilter_add_condition(buffer, ROOM, writer, 0, 5, CALLFILTER_EQ, 1, 0), writer, CALLFILTER_PART_NOT_GOOD);
+    refused(callfilter_add_condition(buffer, ROOM, writer, 0, CALLFILTER_DWORD, 7, 1, 0), writer, CALLFILTER_PART_NOT_GOOD);
+    refused(callfilter_add_condition(buffer, ROOM, writer, 0, CALLFILTER_DWORD, CALLFILTER_EQ, 1, 1), writer, CALLFILTER_PART_NOT_GOOD);
+    writer = callfilter_add_condition(buffer, ROOM, writer, 0, CALLFILTER_DWORD, CALLFILTER_EQ, 1, 0);
+    writer = callfilter_list(buffer, ROOM, writer, 257);
+    writer = callfilter_begin_rule(buffer, ROOM, writer);
+    writer = callfilter_add_condition(buffer, ROOM, writer, 2, CALLFILTER_QWORD, CALLFILTER_MASKED_EQ, 0, 3);
+    writer = callfilter_begin_rule(buffer, ROOM, writer);
+    writer = callfilter_add_condition(buffer, ROOM, writer, 1, CALLFILTER_QWORD, CALLFILTER_GE, UINT64_C(1) << 32, 0);
+    CHECK(writer.code == CALLFILTER_WRITTEN && writer.end == sizeof WORKED_SET && untouched_from(sizeof WORKED_SET));
+    CHECK(memcmp(buffer, WORKED_SET, sizeof WORKED_SET) == 0);
+
+    callfilter_writer forged = {0, 8, 0, 0};
+    CHECK(callfilter_list(buffer, ROOM, forged, 0).code == CALLFILTER_STATE_DOES_NOT_FIT);
+    CHECK(memcmp(buffer, WORKED_SET, sizeof WORKED_SET) == 0 && untouched_from(sizeof WORKED_SET));
+}
+
+static bool is_condition(callfilter_compared read, uint8_t index, uint8_t width, uint8_t comparison, uint64_t value, uint64_t mask) {
+    return read.next.code == CALLFILTER_READ && read.index == index && read.width == width && read.comparison == comparison
+        && read.value == value && read.mask == mask;
+}
+
+static void read_back(void) {
+    const uint8_t *set = WORKED_SET;
+    size_t size = sizeof WORKED_SET;
+    CHECK(callfilter_read_head(set, 15).next.code == CALLFILTER_NOT_THERE);
+    callfilter_head head = callfilter_read_head(set, size);
+    CHECK(head.next.code == CALLFILTER_READ && head.next.at == 16 && head.next.entries == 3 && head.architecture == CALLFILTER_X86_64);
+    CHECK(head.mismatch == CALLFILTER_ERRNO(1) && head.on_match == CALLFILTER_ALLOW);
+    callfilter_listed entry = callfilter_next_entry(set, size, head.next);
+    CHECK(entry.next.code == CALLFILTER_READ && entry.number == 0 && entry.next.rules == 0);
+    CHECK(callfilter_next_rule(set, size, entry.next).code == CALLFILTER_NOT_ITS_TURN);
+    entry = callfilter_next_entry(set, size, entry.next);
+    CHECK(entry.number == 1 && entry.next.rules == 1);
+    CHECK(callfilter_next_entry(set, size, entry.next).next.code == CALLFILTER_NOT_ITS_TURN);
+    callfilter_cursor cursor = callfilter_next_rule(set, size, entry.next);
+    CHECK(cursor.code == CALLFILTER_READ && cursor.conditions == 1 && cursor.rules == 0);
+    CHECK(callfilter_next_condition(set, (size_t)cursor.at + 23, cursor).next.code == CALLFILTER_NOT_THERE);
+    callfilter_compared condition = callfilter_next_condition(set, size, cursor);
+    CHECK(is_condition(condition, 0, CALLFILTER_DWORD, CALLFILTER_EQ, 1, 0));
+    entry = callfilter_next_entry(set, size, condition.next);
+    CHECK(entry.number == 257 && entry.next.rules == 2);
+    condition = callfilter_next_condition(set, size, callfilter_next_rule(set, size, entry.next));
+    CHECK(is_condition(condition, 2, CALLFILTER_QWORD, CALLFILTER_MASKED_EQ, 0, 3));
+    condition = callfilter_next_condition(set, size, callfilter_next_rule(set, size, condition.next));
+    CHECK(is_condition(condition, 1, CALLFILTER_QWORD, CALLFILTER_GE, UINT64_C(1) << 32, 0));
+    CHECK(condition.next.at == size);
+    CHECK(callfilter_next_entry(set, size, condition.next).next.code == CALLFILTER_NOT_ITS_TURN);
+}
+
+static uint8_t filter[CALLFILTER_LONGEST_FILTER];
+
+static void compiled(void) {
+    const uint8_t *set = WORKED_SET;
+    callfilter_answer answer = callfilter_compile(set, sizeof WORKED_SET, filter, 287);
+    CHECK(answer.code == CALLFILTER_BUFFER_TOO_SHORT && answer.count == 36);
+    answer = callfilter_compile(set, sizeof WORKED_SET, filter, sizeof filter);
+    CHECK(answer.code == CALLFILTER_COMPILED && answer.count == 36);
+
+    uint8_t changed[sizeof WORKED_SET];
+    static const struct {
+        int at;
+        uint8_t byte;
+        uint32_t code;
+    } faults[] = {
+        {0, 9, CALLFILTER_NOT_OF_THE_FORMAT},
+        {24, 0, CALLFILTER_NOT_ASCENDING},
+        {36, 6, CALLFILTER_INDEX_ABOVE_FIVE},
+    };
+    for (size_t at = 0; at < sizeof faults / sizeof faults[0]; at++) {
+        memcpy(changed, set, sizeof changed);
+        changed[faults[at].at] = faults[at].byte;
+        CHECK(callfilter_compile(changed, sizeof changed, filter, sizeof filter).code == faults[at].code);
+    }
+    callfilter_writer writer = callfilter_start(changed, sizeof changed, CALLFILTER_AARCH64, CALLFILTER_LOG, CALLFILTER_LOG);
+    CHECK(callfilter_compile(changed, writer.end, filter, sizeof filter).code == CALLFILTER_EQUAL_ACTIONS);
+    writer = callfilter_start(changed, sizeof changed, CALLFILTER_AARCH64, CALLFILTER_TRAP, CALLFILTER_LOG);
+    writer = callfilter_begin_rule(changed, sizeof changed, callfilter_list(changed, sizeof changed, writer, 5));
+    CHECK(callfilter_compile(changed, writer.end, filter, sizeof filter).code == CALLFILTER_EMPTY_RULE);
+}
+
+static void put(uint8_t *place, uint64_t value, int size) {
+    for (int at = 0; at < size; at++) place[at] = (uint8_t)(value >> (8 * at));
+}
+
+static uint8_t long_set[CALLFILTER_LONGEST_SET + 64];
+
+static callfilter_writer plain_calls(uint32_t count) {
+    size_t room = sizeof long_set;
+    callfilter_writer writer = callfilter_start(long_set, room, CALLFILTER_X86_64, CALLFILTER_TRAP, CALLFILTER_ALLOW);
+    for (uint32_t number = 0; number < count; number++) writer = callfilter_list(long_set, room, writer, number);
+    return writer;
+}
+
+static void limits(void) {
+    callfilter_writer writer = plain_calls(131070);
+    CHECK(writer.code == CALLFILTER_WRITTEN && writer.end == CALLFILTER_LONGEST_SET);
+    CHECK(callfilter_list(long_set, sizeof long_set, writer, 131070).code == CALLFILTER_SET_TOO_LONG);
+    callfilter_answer answer = callfilter_compile(long_set, plain_calls(818).end, filter, sizeof filter);
+    CHECK(answer.code == CALLFILTER_COMPILED && 8 * answer.count == CALLFILTER_LONGEST_FILTER);
+    answer = callfilter_compile(long_set, plain_calls(819).end, filter, sizeof filter);
+    CHECK(answer.code == CALLFILTER_TOO_MANY_INSTRUCTIONS && answer.count == 4100);
+}
+
+/* what a set of one condition on argument 0 means for it */
+static uint32_t meaning(uint8_t width, uint8_t comparison, uint64_t value, uint64_t mask, uint32_t on_match, uint64_t argument) {
+    uint8_t set[52], call[CALLFILTER_CALL_SIZE] = {0};
+    callfilter_writer writer = callfilter_start(set, sizeof set, CALLFILTER_AARCH64, CALLFILTER_TRACE(9), on_match);
+    writer = callfilter_begin_rule(set, sizeof set, callfilter_list(set, sizeof set, writer, 7));
+    writer = callfilter_add_condition(set, sizeof set, writer, 0, width, comparison, value, mask);
+    put(call, 7, 4);
+    put(call + 4, 0xc00000b7, 4);
+    put(call + 16, argument, 8);
+    callfilter_outcome outcome = callfilter_decide(set, writer.end, call, sizeof call);
+    CHECK(outcome.code == CALLFILTER_RETURNED);
+    return outcome.action;
+}
+
+static void numbers(void) {
+    static const struct {
+        uint8_t comparison;
+        const char *holds; /* of 4, 5 and 6 */
+    } operators[] = {
+        {CALLFILTER_EQ, "nyn"}, {CALLFILTER_NE, "yny"}, {CALLFILTER_GE, "nyy"}, {CALLFILTER_GT, "nny"},
+        {CALLFILTER_LE, "yyn"}, {CALLFILTER_LT, "ynn"}, {CALLFILTER_MASKED_EQ, "yyn"},
+    };
+    for (size_t at = 0; at < sizeof operators / sizeof operators[0]; at++) {
+        uint64_t mask = operators[at].comparison == CALLFILTER_MASKED_EQ ? 2 : 0;
+        for (int place = 0; place < 3; place++) {
+            uint32_t action = meaning(CALLFILTER_QWORD, operators[at].comparison, 5, mask, CALLFILTER_ALLOW, (uint64_t)place + 4);
+            CHECK(action == (operators[at].holds[place] == 'y' ? CALLFILTER_ALLOW : CALLFILTER_TRACE(9)));
+        }
+    }
+    CHECK(meaning(CALLFILTER_DWORD, CALLFILTER_EQ, 5, 0, CALLFILTER_ALLOW, (UINT64_C(1) << 32) + 5) == CALLFILTER_ALLOW);
+    CHECK(meaning(CALLFILTER_QWORD, CALLFILTER_EQ, 5, 0, CALLFILTER_ALLOW, (UINT64_C(1) << 32) + 5) == CALLFILTER_TRACE(9));
+    static const uint32_t actions[] = {CALLFILTER_KILL_PROCESS, CALLFILTER_KILL_THREAD, CALLFILTER_TRAP, CALLFILTER_ERRNO(65535),
+                                       CALLFILTER_TRACE(0), CALLFILTER_LOG, CALLFILTER_ALLOW};
+    for (size_t at = 0; at < sizeof actions / sizeof actions[0]; at++)
+        CHECK(meaning(CALLFILTER_QWORD, CALLFILTER_EQ, 5, 0, actions[at], 5) == actions[at]);
+}
+
+static void asked(void) {
+    static const struct {
+        uint32_t number, architecture;
+        uint64_t arguments[3];
+        uint32_t action, steps;
+    } calls[] = {
+        {0, 0xc000003e, {0, 0, 0}, CALLFILTER_ALLOW, 6},
+        {1, 0xc000003e, {(UINT64_C(1) << 32) + 1, 0, 0}, CALLFILTER_ALLOW, 10},
+        {1, 0xc000003e, {2, 0, 0}, CALLFILTER_ERRNO(1), 10},
+        {257, 0xc000003e, {0, 0, 4}, CALLFILTER_ALLOW, 16},
+        {257, 0xc000003e, {0, UINT64_C(1) << 32, 1}, CALLFILTER_ALLOW, 22},
+        {257, 0xc000003e, {0, (UINT64_C(1) << 32) - 1, 2}, CALLFILTER_ERRNO(1), 20},
+        {2, 0xc000003e, {0, 0, 0}, CALLFILTER_ERRNO(1), 11},
+        {0, 0xc00000b7, {0, 0, 0}, CALLFILTER_KILL_PROCESS, 3},
+    };
+    size_t size = 8 * (size_t)callfilter_compile(WORKED_SET, sizeof WORKED_SET, filter, sizeof filter).count;
+    CHECK(callfilter_accepts(filter, size));
+    CHECK(!callfilter_accepts(filter, size - 1) && !callfilter_accepts(filter, 8) && !callfilter_accepts(filter, 0));
+    uint8_t call[CALLFILTER_CALL_SIZE];
+    for (size_t at = 0; at < sizeof calls / sizeof calls[0]; at++) {
+        memset(call, 0, sizeof call);
+        put(call, calls[at].number, 4);
+        put(call + 4, calls[at].architecture, 4);
+        for (int argument = 0; argument < 3; argument++) put(call + 16 + 8 * argument, calls[at].arguments[argument], 8);
+        callfilter_outcome outcome = callfilter_run(filter, size, call, sizeof call);
+        CHECK(outcome.code == CALLFILTER_RETURNED && outcome.action == calls[at].action && outcome.steps == calls[at].steps);
+        outcome = callfilter_decide(WORKED_SET, sizeof WORKED_SET, call, sizeof call);
+        CHECK(outcome.code == CALLFILTER_RETURNED && outcome.action == calls[at].action && outcome.steps == 0);
+    }
+    CHECK(callfilter_run(filter, size - 8, call, sizeof call).code == CALLFILTER_NOT_TAKEN);
+    CHECK(callfilter_run(filter, size, call, sizeof call - 1).code == CALLFILTER_NOT_A_CALL);
+    CHECK(callfilter_decide(WORKED_SET, sizeof WORKED_SET - 1, call, sizeof call).code == CALLFILTER_NOT_OF_THE_FORMAT);
+    CHECK(callfilter_decide(WORKED_SET, sizeof WORKED_SET, call, sizeof call - 1).code == CALLFILTER_NOT_A_CALL);
+}
+
+int main(void) {
+    written();
+    read_back();
+    compiled();
+    limits();
+    numbers();
+    asked();
+    printf("%d passed, %d failed\n", passed, failed);
+    return failed != 0;
+}

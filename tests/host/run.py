@@ -1,0 +1,175 @@
+#!/usr/bin/env python3
+"""The gate's tests of what hosts get: the header against the archive, in C and C++; the Rust crate with its tests and the examples of its
+documentation, wrong uses that must not compile among them; what the demo prints. The last line is 'N passed, M failed', with ', K skipped'
+behind it for what this machine has no tool for."""
+import os
+import pathlib
+import re
+import shutil
+import subprocess
+import sys
+
+HERE = pathlib.Path(__file__).resolve().parent
+sys.path.insert(0, str(HERE.parent))
+import archive  # noqa: E402
+
+ROOT = archive.ROOT
+TARGET = ROOT / "target" / "host"
+HEADER = ROOT / "host" / "callfilter.h"
+CRATE = ROOT / "host" / "rust"
+LIBRARY = TARGET / "libcallfilter.rlib"
+STRICT = ("-O2", "-Wall", "-Wextra", "-pedantic", "-Werror", "-I", HEADER.parent)
+
+
+class Tally:
+    def __init__(self):
+        self.passed = self.failed = self.skipped = 0
+
+    def check(self, name, good, why=""):
+        if good:
+            self.passed += 1
+            print(f"ok {name}")
+        else:
+            self.failed += 1
+            print(f"FAILED {name}{': ' if why else ''}{why}")
+
+    def skip(self, name, why):
+        self.skipped += 1
+        print(f"skipped {name}: {why}")
+
+    def counted(self, name, text, pattern):
+        """Adds what a program counted itself; one that counted nothing has failed."""
+        counts = [tuple(map(int, found)) for found in re.findall(pattern, text)]
+        passed, failed = (sum(count[place] for count in counts) for place in (0, 1))
+        if passed + failed == 0 or failed:
+            print(text)
+        self.passed += passed
+        self.failed += failed if passed + failed else 1
+        print(f"{name}: {passed} passed, {failed} failed")
+
+
+def run(*words, **more):
+    """Exit status, and what was printed on both ways."""
+    done = subprocess.run(list(map(str, words)), cwd=ROOT, stdout=subprocess.PIPE, stderr=subprocess.STDOUT, text=True, **more)
+    return done.returncode, done.stdout
+
+
+def built(tally, name, *words, **more):
+    status, said = run(*words, **more)
+    tally.check(name, status == 0, said)
+    return status == 0
+
+
+# ---- the header
+
+
+def header(tally):
+    text = HEADER.read_text()
+    declared = re.findall(r"^[a-z_]+ (callfilter_\w+)\(", text, re.MULTILINE)
+    promised = re.findall(r"^/\* [^\n]*\n \* [^\n]* \*/\n[a-z_]+ (callfilter_\w+)\(", text, re.MULTILINE)
+    exported = re.findall(r" T (\w+)$", run("nm", "--extern-only", "--defined-only", archive.ARCHIVE)[1], re.MULTILINE)
+    tally.check("the header declares what the archive exports, and nothing else", sorted(declared) == sorted(exported) and exported,
+                f"declared {sorted(declared)}, exported {sorted(exported)}")
+    tally.check("each function has its promise in two lines above it", promised == declared, set(declared) - set(promised))
+    own = r"(?m)^\w[\w *]*\bcallfilter_\w+\([^;{]*\);|\}\s*callfilter_\w+;"
+    apart = [path.name for path in (ROOT / "tests").rglob("*.[ch]") if re.search(own, path.read_text())]
+    tally.check("tests in C have no declarations of their own", re.search(own, text) and not apart, apart)
+
+    languages = (("C99", "gcc", "c", "c99"), ("C++", "g++", "c++", "c++11"))
+    for name, compiler, language, standard in languages:
+        if shutil.which(compiler) is None:
+            tally.skip(f"the header in {name}", f"{compiler} is not there")
+            continue
+        program = TARGET / f"boundary-{standard}"
+        if built(tally, f"the header and a host in {name}", compiler, f"-std={standard}", *STRICT, "-x", language, HERE / "boundary.c",
+                 "-x", "none", archive.ARCHIVE, "-o", program):
+            tally.counted(f"the boundary from {name}", run(program)[1], r"(?m)^(\d+) passed, (\d+) failed$")
+
+
+# ---- the crate
+
+
+def unsafe_code(tally):
+    files = [path for path in CRATE.rglob("*.rs") if re.search(r"\bunsafe\b", re.sub(r"//.*", "", path.read_text()))]
+    tally.check("only boundary.rs has unsafe code", [path.name for path in files] == ["boundary.rs"], files)
+    text = (CRATE / "src" / "boundary.rs").read_text()
+    blocks, reasons = text.count("unsafe {"), len(re.findall(r"// SAFETY: [^\n]+\n\s*unsafe \{", text))
+    tally.check("each unsafe block has its reason above it", blocks == reasons > 0, f"{blocks} blocks, {reasons} reasons")
+
+
+def crate(tally):
+    unsafe_code(tally)
+    rustc = ("rustc", "--edition", "2021", "-O", "-D", "warnings")
+    link = ("-L", f"native={archive.ARCHIVE.parent}", "-l", "static=callfilter")
+    source = CRATE / "src" / "lib.rs"
+    if not built(tally, "the crate without a warning", *rustc, "--crate-type", "rlib", "--crate-name", "callfilter", source, *link, "-o", LIBRARY):
+        return
+    programs = [(source, (*link, "--crate-name", "callfilter"))]
+    programs += [(path, ("--extern", f"callfilter={LIBRARY}")) for path in sorted((CRATE / "tests").glob("*.rs"))]
+    for path, words in programs:
+        program = TARGET / f"test-{path.stem}"
+        if built(tally, f"the tests of {path.stem}", *rustc, "--test", path, *words, "-o", program):
+            cargo_counts(tally, path.stem, program)
+    # the codes that wrong uses must be refused with are looked at only by a rustdoc that takes unstable features
+    cargo_counts(tally, "examples of the documentation", "rustdoc", "--test", "--edition", "2021", "--crate-name", "callfilter", source,
+                 "--extern", f"callfilter={LIBRARY}", env={**os.environ, "RUSTC_BOOTSTRAP": "1"})
+
+
+def cargo_counts(tally, name, *words, **more):
+    tally.counted(name, run(*words, **more)[1], r"test result: \w+\. (\d+) passed; (\d+) failed")
+
+
+def cargo(tally, expected):
+    """That the manifest and build.rs are right: the demo once more, as those who have cargo run it."""
+    if shutil.which("cargo") is None:
+        tally.skip("the crate by cargo", "cargo is not there")
+        return
+    words = ("cargo", "run", "--quiet", "--offline", "--manifest-path", CRATE / "Cargo.toml", "--example", "demo")
+    environment = {**os.environ, "CARGO_TARGET_DIR": str(TARGET / "cargo")}
+    status, said = run(*words, env=environment)
+    tally.check("the demo by cargo", status == 0 and said == expected, said)
+    status, said = run(*words, env={**environment, "CALLFILTER_LIB": str(HERE)})
+    tally.check("without the archive cargo says what to do", status != 0 and "make it by `rt staticlib callfilter`" in said, said)
+
+
+# ---- the demo
+
+
+def demo(tally, expected):
+    done = subprocess.run(["bash", ROOT / "host" / "demo.sh"], stdout=subprocess.PIPE, stderr=subprocess.PIPE, text=True)
+    tally.check("the demo prints what is stored", done.returncode == 0 and done.stdout == expected, done.stdout + done.stderr)
+    lines = shown_in_readme("jeq")
+    tally.check("README shows lines of the demo", lines and all(line in expected.splitlines() for line in lines), lines)
+    lines, example = shown_in_readme("RuleSet::new"), (CRATE / "src" / "lib.rs").read_text().splitlines()
+    tally.check("README shows lines of the crate's example", lines and all(f"//! {line}" in example for line in lines), lines)
+
+
+def shown_in_readme(word):
+    """The lines of the indented block in README that has the word."""
+    blocks = re.findall(r"(?m)(?:^ {4}.*\n|^\n)+", (ROOT / "README.md").read_text())
+    return [line[4:] for block in blocks if word in block for line in block.splitlines() if line.strip()]
+
+
+def main():
+    tally = Tally()
+    TARGET.mkdir(parents=True, exist_ok=True)
+    try:
+        archive.build()
+    except (OSError, archive.Broken) as error:
+        print(f"the archive was not built: {error}")
+        print("0 passed, 1 failed")
+        return 1
+    header(tally)
+    if shutil.which("rustc") is None:
+        tally.skip("the crate and the demo", "rustc is not there")
+    else:
+        expected = (HERE / "demo.txt").read_text()
+        crate(tally)
+        demo(tally, expected)
+        cargo(tally, expected)
+    print(f"{tally.passed} passed, {tally.failed} failed" + (f", {tally.skipped} skipped" if tally.skipped else ""))
+    return 1 if tally.failed else 0
+
+
+if __name__ == "__main__":
+    sys.exit(main())
