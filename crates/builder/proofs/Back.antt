@@ -39,7 +39,7 @@ unfolding numberAt
 number-shift w s at i = rw (drop-drop i at s)
 
 -- how many bytes are left
-left-long : (s p : List ℕ) (at : ℕ) → drop at s ≡ p → at ≤ length s → at + length p ≡ length s
+pub left-long : (s p : List ℕ) (at : ℕ) → drop at s ≡ p → at ≤ length s → at + length p ≡ length s
 left-long s p at e h = let n = sym (length-drop at s) ∙ ap length e in omega arith
 
 -- ---- the head

@@ -10,6 +10,7 @@ use lib.ListN.{length, getD}
 use borrow.Author.Tests.{leb-true, le-leb, eqb-true, eqb-false, eq-eqb, ne-eqb, not-true}
 use Rattle.definitions.specs.declared.Condition.{Condition}
 use Rattle.definitions.specs.declared.Cursor.{Cursor}
+use Rattle.definitions.specs.declared.Compared.{Compared}
 use Rattle.definitions.specs.Word.{numberAt}
 use Rattle.definitions.specs.Format.{widthOf, operatorOf, maskTaken, Read, then, check, conditionAt, isThere}
 use Rattle.definitions.specs.Parts.{conditionOf}
@@ -63,6 +64,17 @@ numbersAt s at = conditionOf (getD s at 0) (getD s (at + 1) 0) (getD s (at + 2) 
 abbrev ended : ℕ → Option Condition → Option (Read Condition)
 ended at x = then x (λ q. some (record { value = q; past = at + 24 }))
 
+-- what the reader gives, from the same numbers
+abbrev given : List ℕ → Cursor → Compared
+given s c = record {
+  next = record { code = 0; at = c .at + 24; entries = c .entries; rules = c .rules; conditions = c .conditions - 1 };
+  index = getD s (c .at) 0;
+  width = getD s (c .at + 1) 0;
+  operator = getD s (c .at + 2) 0;
+  value = numberAt 8 s (c .at + 8);
+  mask = numberAt 8 s (c .at + 16);
+}
+
 pub condition-at : (s : List ℕ) (at : ℕ) → at + 24 ≤ length s → conditionAt s at ≡ check (eqb (numberAt 5 s (at + 3)) 0) (ended at (numbersAt s at))
 unfolding conditionAt conditionOf
 condition-at s at room =
@@ -115,28 +127,12 @@ module _ (s : List ℕ) (c : Cursor) (some-left : c .conditions ≡ 0 → ⊥) w
           go (some q) e = absurd (let z : _≡_ {A = ℕ} 0 1 = cc in omega arith)
 
       pub compared-good : conditionGood (getD s (c .at + 1) 0) (getD s (c .at + 2) 0) (numberAt 8 s (c .at + 16)) ≡ true
-          → comparedOf s c
-          ≡ record {
-            next = record { code = 0; at = c .at + 24; entries = c .entries; rules = c .rules; conditions = c .conditions - 1 };
-            index = getD s (c .at) 0;
-            width = getD s (c .at + 1) 0;
-            operator = getD s (c .at + 2) 0;
-            value = numberAt 8 s (c .at + 8);
-            mask = numberAt 8 s (c .at + 16);
-          }
+          → comparedOf s c ≡ given s c
       unfolding conditionFrom
       compared-good h = compared-from ∙ rw padded (go (numbersAt s (c .at)) refl (numbers-there _ _ _ _ _ ∙ h))
         where
           go : (x : Option Condition) → numbersAt s (c .at) ≡ x → isThere x ≡ true
-              → conditionFrom c (ended (c .at) x)
-              ≡ record {
-                next = record { code = 0; at = c .at + 24; entries = c .entries; rules = c .rules; conditions = c .conditions - 1 };
-                index = getD s (c .at) 0;
-                width = getD s (c .at + 1) 0;
-                operator = getD s (c .at + 2) 0;
-                value = numberAt 8 s (c .at + 8);
-                mask = numberAt 8 s (c .at + 16);
-              }
+              → conditionFrom c (ended (c .at) x) ≡ given s c
           go none p e = absurd (let z : _≡_ {A = ℕ} 0 1 = cc in omega arith)
           go (some q) p e =
               let n = condition-numbers _ _ _ _ _ q p in

@@ -1,5 +1,5 @@
 -- The worked rule set, and what the program's functions say of it.
-use Prim.Native.Nat.{ℕ}
+use Prim.Native.Nat.{ℕ, _<_}
 use mathlib.Core.Path.{_≡_}
 use mathlib.Core.List.{List}
 use mathlib.Core.Option.{some}
@@ -37,9 +37,11 @@ AddsRule index width operator value mask before after w r =
 abbrev pub Ahead : List ℕ → Cursor → Type 0
 Ahead s c = (qs : List Condition) × (rs : List Rule) × (es : List Entry) × Left s c qs rs es
 
--- so it does, and where no part was given, it is behind the last byte
-abbrev pub Walked : List ℕ → Cursor → Type 0
-Walked s c = Ahead s c × ((c .code ≡ 0 → ⊥) → c .at ≡ length s)
+-- a cursor that stood before parts of a set gave r: it still does, further on, or nothing is left
+pub record Walked (s : List ℕ) (c r : Cursor) : Type 0 where
+  pub ahead : Ahead s r
+  pub further : r .code ≡ 0 → c .at < r .at
+  pub ended : (r .code ≡ 0 → ⊥) → r .at ≡ length s
 
 -- bytes are the byte form of a rule set, and others are its filter
 pub record Stored (rs : RuleSet) (form filter : List ℕ) : Type 0 where

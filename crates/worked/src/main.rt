@@ -2,6 +2,7 @@
 // says is compared with the file `stdout`, so that the proved functions are also seen to run.
 ghost use mathlib.Core.Path.{_≡_};
 ghost use mathlib.Core.Bool.{true};
+ghost use lib.ListN.{length};
 ghost use Rattle.definitions.specs.Machine.{filterBytes};
 ghost use Rattle.definitions.specs.RuleSet.{RuleSet};
 ghost use Rattle.definitions.specs.Emitted as filters;
@@ -119,7 +120,7 @@ fn say_condition(compared: Compared) {
 
 // Reads the part that is next, whichever it is.
 fn next_part(set: &[u8], cursor: Cursor) -> Cursor
-    ensures { λ r. ⌜ (Ahead (now (set .entry)) cursor → Walked (now (set .entry)) r) ⌝ }
+    ensures { λ r. ⌜ (Ahead (now (set .entry)) cursor → Walked (now (set .entry)) cursor r) ⌝ }
 {
     if cursor.conditions != 0 {
         let compared = callfilter::callfilter_next_condition(set, cursor);
@@ -138,9 +139,9 @@ fn next_part(set: &[u8], cursor: Cursor) -> Cursor
     next
 }
 
-// Reads parts until there is none; every part has at least a byte.
+// Reads a set to its end. A part has at least a byte, so that there are no more parts than bytes.
 fn walk(set: &[u8]) -> Cursor
-    ensures { λ r. ⌜ ((rs : RuleSet) → FormOf rs (now (set .entry)) → Walked (now (set .entry)) r) ⌝ }
+    ensures { λ r. ⌜ ((rs : RuleSet) → FormOf rs (now (set .entry)) → r .at ≡ length (now (set .entry))) ⌝ }
 {
     let head = callfilter::callfilter_read_head(set);
     say_head(head);
