@@ -26,6 +26,8 @@ pub enum Error {
         /// Which of its rules, counted from 0.
         rule: usize,
     },
+    /// This call is listed without rules, to match always, and with rules.
+    AlwaysAndByRules(u32),
     /// A condition looks at an argument that calls do not have.
     IndexAboveFive(u8),
     /// The filter would have this many instructions.
@@ -55,6 +57,9 @@ impl fmt::Display for Error {
                 to,
                 "rule {rule} of call {call} has no conditions: give it at least one, or the call no rules if it is to match always"
             ),
+            Error::AlwaysAndByRules(call) => {
+                write!(to, "call {call} is listed without rules, to match always, and once more with rules: keep one of the two")
+            }
             Error::IndexAboveFive(index) => write!(to, "there is no argument {index}: a call has the arguments 0 to 5"),
             Error::TooManyInstructions(count) => {
                 write!(to, "the filter would have {count} instructions, and at most 4095 are compiled: list fewer calls or conditions")

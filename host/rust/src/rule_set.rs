@@ -16,7 +16,7 @@ pub type Rule = Vec<Condition>;
 /// - A call that is listed without rules gets the match action.
 /// - A call that is listed with rules gets the match action if one of them has all its conditions true, else the mismatch action.
 ///
-/// Calls may be listed in any order. Naming a call once more goes on with its rules.
+/// Calls may be listed in any order, and rules for one call in several goes.
 ///
 /// ```
 /// use callfilter::{Action, Architecture, Condition, Operator, RuleSet, Width};
@@ -50,7 +50,14 @@ pub struct RuleSet {
     architecture: Architecture,
     mismatch: Action,
     on_match: Action,
-    calls: BTreeMap<u32, Vec<Rule>>,
+    calls: BTreeMap<u32, Entry>,
+}
+
+#[derive(Clone, Debug, Default, PartialEq, Eq)]
+struct Entry {
+    /// Whether it was listed without rules: then it has to stay without.
+    always: bool,
+    rules: Vec<Rule>,
 }
 
 impl RuleSet {
@@ -59,7 +66,21 @@ impl RuleSet {
         RuleSet { architecture, mismatch, on_match, calls: BTreeMap::new() }
     }
 
-    /// Lists a call. It matches whatever its arguments are, unless it has rules.
+    /// Lists a call. It matches whatever its arguments are, unless it is given rules.
+    ///
+    /// A call that is listed both ways is refused when the set is compiled: whichever was meant, the other would be an open door.
+    ///
+    /// ```
+    /// use callfilter::{Action, Architecture, Condition, Error, Operator, RuleSet, Width};
+    ///
+    /// let mut set = RuleSet::new(Architecture::X86_64, Action::KillProcess, Action::Allow);
+    /// set.call(1).rule(&[Condition::new(0, Width::Dword, Operator::Eq, 1)?]);
+    /// set.call(1).rule(&[Condition::new(0, Width::Dword, Operator::Eq, 2)?]);
+    /// assert!(set.compile().is_ok());
+    /// set.call(1);
+    /// assert_eq!(set.compile(), Err(Error::AlwaysAndByRules(1)));
+    /// # Ok::<(), Error>(())
+    /// ```
     ///
     /// A number below 0 cannot be written:
     ///
@@ -69,8 +90,9 @@ impl RuleSet {
     /// set.call(-1);
     /// ```
     pub fn call(&mut self, number: u32) -> Listed<'_> {
-        self.calls.entry(number).or_default();
-        Listed { set: self, number }
+        let entry = self.calls.entry(number).or_default();
+        let always_before = std::mem::replace(&mut entry.always, true);
+        Listed { set: self, number, always_before }
     }
 
     /// Compiles the set.
@@ -125,7 +147,10 @@ impl RuleSet {
     /// # Ok::<(), callfilter::Error>(())
     /// ```
     pub fn to_bytes(&self) -> Result<Vec<u8>, Error> {
-        writing::bytes_of(self)
+        match self.calls.iter().find(|(_, entry)| entry.always && !entry.rules.is_empty()) {
+            Some((number, _)) => Err(Error::AlwaysAndByRules(*number)),
+            None => writing::bytes_of(self),
+        }
     }
 
     /// Reads a set back from its bytes. Any bytes may be offered; those that can be no filter whatever its length are refused.
@@ -165,7 +190,7 @@ impl RuleSet {
     /// assert!(set.calls().map(|(number, _)| number).eq([63, 64]));
     /// ```
     pub fn calls(&self) -> impl Iterator<Item = (u32, &[Rule])> {
-        self.calls.iter().map(|(number, rules)| (*number, rules.as_slice()))
+        self.calls.iter().map(|(number, entry)| (*number, entry.rules.as_slice()))
     }
 }
 
@@ -195,13 +220,17 @@ impl RuleSet {
 pub struct Listed<'a> {
     set: &'a mut RuleSet,
     number: u32,
+    /// Whether it had been listed without rules before.
+    always_before: bool,
 }
 
 impl<'a> Listed<'a> {
-    /// Adds a rule: from now on the call matches only if some rule of it has all its conditions true. A rule without conditions is refused
-    /// when the set is compiled.
+    /// Adds a rule: the call matches only if some rule of it has all its conditions true. A rule without conditions is refused when the
+    /// set is compiled.
     pub fn rule(self, conditions: &[Condition]) -> Listed<'a> {
-        self.set.calls.entry(self.number).or_default().push(conditions.to_vec());
+        let entry = self.set.calls.entry(self.number).or_default();
+        entry.always = self.always_before;
+        entry.rules.push(conditions.to_vec());
         self
     }
 
@@ -222,17 +251,16 @@ impl Deref for Listed<'_> {
 impl fmt::Display for RuleSet {
     /// The set in words, a rule to a line.
     fn fmt(&self, to: &mut fmt::Formatter) -> fmt::Result {
-        write!(to, "on {}: {} what matches, else {}; on any other architecture: ", self.architecture, self.on_match, self.mismatch)?;
-        write!(to, "{}", Action::KillProcess)?;
-        for (number, rules) in self.calls() {
-            let listed = format!("call {number} matches");
+        let elsewhere = Action::KillProcess;
+        write!(to, "on {}: {} what matches, else {}; ", self.architecture, self.on_match, self.mismatch)?;
+        write!(to, "on any other architecture: {elsewhere}")?;
+        for (number, entry) in &self.calls {
+            let both = entry.always && !entry.rules.is_empty();
+            let listed = format!("call {number} matches{}", if both { " always, and" } else { "" });
             write!(to, "\n{listed}")?;
-            for (place, rule) in rules.iter().enumerate() {
-                if place == 0 {
-                    write!(to, " if {}", in_words(rule))?;
-                } else {
-                    write!(to, "\n{:>width$} {}", "or", in_words(rule), width = listed.len() + 3)?;
-                }
+            for (place, rule) in entry.rules.iter().enumerate() {
+                let joined = if place == 0 { " if".to_owned() } else { format!("\n{:>width$}", "or", width = listed.len() + 3) };
+                write!(to, "{joined} {}", in_words(rule))?;
             }
         }
         Ok(())

@@ -115,5 +115,8 @@ call 12 matches if argument 0 (low 32 bits) = 7 and argument 5 ≠ 0x100000000
 call 13 matches if argument 0 (low 32 bits) ≥ 1 and argument 0 (low 32 bits) > 2
                 or argument 0 (low 32 bits) ≤ 3 and argument 0 (low 32 bits) < 4"
     );
+    let mut both = RuleSet::new(Architecture::X86_64, Action::Trap, Action::Log);
+    both.call(5).call(5).rule(&[all(Operator::Lt, 2)?]);
+    assert!(both.to_string().ends_with("\ncall 5 matches always, and if argument 5 < 2"));
     Ok(())
 }

@@ -66,6 +66,23 @@ fn a_rule_without_conditions_is_named() {
 }
 
 #[test]
+fn a_call_listed_with_rules_and_without_is_named() {
+    let mut without_first = plain();
+    without_first.call(4).call(5).call(5).rule(&[condition()]).rule(&[condition()]);
+    let mut without_last = plain();
+    without_last.call(5).rule(&[condition()]).call(5);
+    for set in [without_first, without_last] {
+        assert_eq!(set.compile(), Err(Error::AlwaysAndByRules(5)));
+        assert_eq!(set.decide(&Call::new(Architecture::X86_64, 5, [0; 6])), Err(Error::AlwaysAndByRules(5)));
+    }
+    let (mut once, mut twice) = (plain(), plain());
+    once.call(5).rule(&[condition()]).rule(&[condition()]).call(6);
+    twice.call(6).call(5).rule(&[condition()]).call(6).call(5).rule(&[condition()]);
+    assert_eq!(once, twice);
+    assert_eq!(once.compile().map(|filter| filter.len()), Ok(22));
+}
+
+#[test]
 fn an_argument_that_calls_have_not_is_named() {
     for index in 0..=255 {
         let made = Condition::new(index, Width::Qword, Operator::Ne, 0);
@@ -184,6 +201,7 @@ fn errors_are_told_as_errors() {
         (Error::NotAscending { number: 2, behind: 3 }, "numbers must be strictly ascending"),
         (Error::EqualActions(Action::Log), "the action is log whether a call matches or not"),
         (Error::TooManyInstructions(4100), "the filter would have 4100 instructions, and at most 4095 are compiled"),
+        (Error::AlwaysAndByRules(5), "call 5 is listed without rules, to match always, and once more with rules"),
         (Error::SetTooLong, "more than 1 MiB"),
         (Error::NotTaken, "the kernel would not take these bytes as a filter"),
     ];
