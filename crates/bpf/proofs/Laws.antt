@@ -10,7 +10,7 @@ use lib.ListN.{length, take, drop, getD, set, length-append, length-take, length
 use lib.Seq.{drop-cons, sets-eq, take-at, drop-at, take-take, take-append-le, drop-append-add, drop-drop}
 use Rattle.definitions.specs.Word.{numberOf, bytesOf, numberAt}
 use Rattle.definitions.specs.declared.Instruction.{Instruction}
-use Rattle.bpf.specs.Place.{place, placeBefore, Writing}
+use Rattle.bpf.specs.Place.{place, placeBefore, PutBefore, Writing}
 use Rattle.definitions.specs.Machine.{instructionBytes, filterBytes}
 
 pub number-zero : (s : List ℕ) (at : ℕ) → numberAt 0 s at ≡ 0
@@ -189,6 +189,21 @@ pub before-is : (l : List ℕ) (end at : ℕ) (is : List Instruction) → at + 8
     → placeBefore l end (filterBytes is) ≡ place l at (filterBytes is)
 unfolding placeBefore
 before-is l end at is e = let n : end - length (filterBytes is) ≡ at = rw length-filterBytes (omega arith) in rw n
+
+-- instructions put at the place that is theirs before another
+pub put-at : {l : List ℕ} {end at : ℕ} {is : List Instruction} {out : List ℕ} → at + 8 * length is ≡ end → out ≡ place l at (filterBytes is) → PutBefore l end is out at
+put-at {l} {end} {at} {is} e o = record { same = o ∙ sym (before-is l end at is e); spot = e }
+
+pub put-where : {l : List ℕ} {end at : ℕ} {is : List Instruction} {out : List ℕ} → PutBefore l end is out at → out ≡ place l at (filterBytes is)
+put-where {l} {end} {at} {is} p = p .same ∙ before-is l end at is (p .spot)
+
+-- two runs, one in front of the other, are one
+pub put-both : {l : List ℕ} {end next at : ℕ} {is js : List Instruction} {mid out : List ℕ} → end ≤ length l
+    → PutBefore l end js mid next → PutBefore mid next is out at → PutBefore l end (is ++ js) out at
+put-both {l} {end} {next} {at} {is} {js} {mid} {out} room p q =
+    let n : length (is ++ js) ≡ length is + length js = length-append is js in
+    put-at (omega (arith, p .spot, q .spot))
+    (put-where q ∙ rw (put-where p) (puts-before l at next is js (omega (arith, q .spot)) (omega (arith, p .spot))))
 
 pub record WritingBefore (out₀ : List ℕ) (end : ℕ) (all : List Instruction) (out : List ℕ) (pos : ℕ) (left : List Instruction) : Type 0 where
   pub same : placeBefore out pos (filterBytes left) ≡ placeBefore out₀ end (filterBytes all)

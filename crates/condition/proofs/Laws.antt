@@ -1,27 +1,18 @@
--- Laws of a condition's instructions: how its parts make it up, and that its length does not depend on its distance. Assumes nothing.
-use mathlib.Core.Path.{_≡_, refl, ap}
+-- Laws of a condition's instructions: how its parts make it up, and how long they are. Assumes nothing.
+use mathlib.Core.Path.{_≡_, refl, ap, _∙_}
 use mathlib.Core.List.{List, _++_}
-use Prim.Native.Nat.{ℕ, suc, _+_, _*_, _≤_}
+use Prim.Native.Nat.{ℕ, _+_, _≤_}
 use native.Mathlib.Omega.{arith}
-use lib.ListN.{length, length-append, length-take}
-use Rattle.definitions.specs.declared.Instruction.{Instruction}
+use lib.ListN.{length, length-append}
 use Rattle.definitions.specs.declared.Operator.{Operator}
 use Rattle.definitions.specs.declared.Operator.the-variants.{Eq, Ge, Gt, Le, Lt, MaskedEq, Ne}
 use Rattle.definitions.specs.declared.Width.{Width}
 use Rattle.definitions.specs.declared.Width.the-variants.{Dword, Qword}
 use Rattle.definitions.specs.declared.Condition.{Condition}
-use Rattle.definitions.specs.Machine.{filterBytes}
-use Rattle.definitions.specs.Emitted.{lowTests, highTests, lowPart, highPart, onlyQword, conditionCode}
-use Rattle.bpf.specs.Place.{place}
-use Rattle.bpf.proofs.Laws.{puts-append}
-use Rattle.condition.specs.declared.Part.{Part}
-use Rattle.condition.specs.Part.{partCode, Holds}
-
-pub part-length : (p : Part) (is : List Instruction) → Holds p is → length (partCode p) ≡ p .count
-part-length p is h = simp length-take (omega arith)
-
-pub holds-length : (p : Part) (is : List Instruction) → Holds p is → length is ≡ p .count
-holds-length p is h = rw (← h .same) (part-length p is h)
+use Rattle.definitions.specs.Emitted.{lowPart, highPart, conditionCode}
+use Rattle.theorems.specs.Length.{forWidth, conditionLength}
+use Rattle.theorems.proofs.Conditions.{compared}
+use Rattle.theorems.proofs.Lengths.{length-condition-code}
 
 -- ---- a dword has the low part alone, a qword both
 
@@ -33,56 +24,42 @@ pub qword-is : (q : Condition) (f : ℕ) → q .width ≡ Qword → conditionCod
 unfolding conditionCode
 qword-is q f e = rw e
 
-pub dword-length : (q : Condition) (f : ℕ) (l : Part) → q .width ≡ Dword → Holds l (lowPart q f)
-    → length (conditionCode q f) ≡ l .count
-dword-length q f l e k = rw (dword-is q f e) (holds-length l (lowPart q f) k)
-
-pub qword-length : (q : Condition) (f : ℕ) (h l : Part) → q .width ≡ Qword → Holds h (highPart q f) → Holds l (lowPart q f)
-    → length (conditionCode q f) ≡ h .count + l .count
-qword-length q f h l e j k =
-    rw (qword-is q f e, length-append, holds-length h (highPart q f) j, holds-length l (lowPart q f) k)
-
-pub dword-put : (q : Condition) (f : ℕ) (l : Part) (out : List ℕ) (at : ℕ) → q .width ≡ Dword → Holds l (lowPart q f)
-    → place out at (filterBytes (partCode l)) ≡ place out at (filterBytes (conditionCode q f))
-dword-put q f l out at e k = rw (dword-is q f e, ← k .same)
-
-pub qword-put : (q : Condition) (f : ℕ) (h l : Part) (out : List ℕ) (at next : ℕ) → q .width ≡ Qword
-    → Holds h (highPart q f) → Holds l (lowPart q f) → next ≡ at + 8 * h .count → next + 8 * l .count ≤ length out
-    → place (place out at (filterBytes (partCode h))) next (filterBytes (partCode l)) ≡ place out at (filterBytes (conditionCode q f))
-qword-put q f h l out at next e j k n room =
-    rw (qword-is q f e, ← j .same, ← k .same)
-    (puts-append out at next (partCode h) (partCode l) (rw (part-length h _ j) n) (rw (part-length l _ k) room))
-
 -- ---- how many instructions there are is the same at every distance
 
-low-any : (o : Operator) (v m f g : ℕ) → length (lowTests o v m f) ≡ length (lowTests o v m g)
-unfolding lowTests
-low-any Eq v m f g = refl
-low-any Ge v m f g = refl
-low-any Gt v m f g = refl
-low-any Le v m f g = refl
-low-any Lt v m f g = refl
-low-any MaskedEq v m f g = refl
-low-any Ne v m f g = refl
+pub condition-long : (q : Condition) (f : ℕ) {w : Width} → q .width ≡ w → length (conditionCode q f) ≡ conditionLength (q .operator) w
+condition-long q f e = length-condition-code q f ∙ ap (conditionLength (q .operator)) e
 
-high-any : (o : Operator) (v m f g : ℕ) → length (highTests o v m f) ≡ length (highTests o v m g)
-unfolding highTests
-high-any Eq v m f g = refl
-high-any Ge v m f g = refl
-high-any Gt v m f g = refl
-high-any Le v m f g = refl
-high-any Lt v m f g = refl
-high-any MaskedEq v m f g = refl
-high-any Ne v m f g = refl
+pub low-long : (q : Condition) (f : ℕ) → length (lowPart q f) ≡ conditionLength (q .operator) Dword
+unfolding conditionCode lowPart
+low-long q f = length-condition-code (compared (q .operator) Dword (q .index) (q .value) (q .mask)) f
 
-only-any : (w : Width) (a b : List Instruction) → length a ≡ length b → length (onlyQword w a) ≡ length (onlyQword w b)
-only-any Dword a b e = refl
-only-any Qword a b e = e
-
-pub length-any : (q : Condition) (f g : ℕ) → length (conditionCode q f) ≡ length (conditionCode q g)
+pub high-long : (q : Condition) (f : ℕ) → length (highPart q f) + conditionLength (q .operator) Dword ≡ conditionLength (q .operator) Qword
 unfolding conditionCode lowPart highPart
-length-any q f g =
-    simp length-append
-    (let l = low-any (q .operator) (q .value) (q .mask) f g in
-    let h = only-any (q .width) (highPart q f) (highPart q g) (ap suc (high-any (q .operator) (q .value) (q .mask) f g)) in
-    omega arith)
+high-long q f =
+    rw (← low-long q f, ← length-append (highPart q f) (lowPart q f))
+    (length-condition-code (compared (q .operator) Qword (q .index) (q .value) (q .mask)) f)
+
+-- a condition has at least its low part
+pub low-fits : (q : Condition) (f : ℕ) → conditionLength (q .operator) Dword ≤ length (conditionCode q f)
+low-fits q f = go (q .width) refl
+  where
+    go : (w : Width) → q .width ≡ w → conditionLength (q .operator) Dword ≤ length (conditionCode q f)
+    go Dword e = rw (dword-is q f e, low-long q f) (omega arith)
+    go Qword e = rw (qword-is q f e, length-append, low-long q f) (omega arith)
+
+short : (w : Width) (a b : ℕ) → a ≤ 6 → b ≤ 6 → forWidth w a b ≤ 6
+short Dword a b p q = p
+short Qword a b p q = q
+
+at-most-six : (o : Operator) (w : Width) → conditionLength o w ≤ 6
+unfolding conditionLength
+at-most-six Eq w = short w 2 4 (omega arith) (omega arith)
+at-most-six Ge w = short w 2 5 (omega arith) (omega arith)
+at-most-six Gt w = short w 2 5 (omega arith) (omega arith)
+at-most-six Le w = short w 2 5 (omega arith) (omega arith)
+at-most-six Lt w = short w 2 5 (omega arith) (omega arith)
+at-most-six MaskedEq w = short w 3 6 (omega arith) (omega arith)
+at-most-six Ne w = short w 2 4 (omega arith) (omega arith)
+
+pub condition-short : (q : Condition) (f : ℕ) → length (conditionCode q f) ≤ 6
+condition-short q f = rw (length-condition-code q f) (at-most-six (q .operator) (q .width))

@@ -40,6 +40,14 @@ pub near-small : (d : ℕ) → near d ≤ reach
 unfolding near
 near-small d = small (ltb reach d) d refl
 
+pub near-far : (d : ℕ) → ltb reach d ≡ true → near d ≡ 1
+unfolding near
+near-far d e = rw e
+
+pub near-same : (d : ℕ) → ltb reach d ≡ false → near d ≡ d
+unfolding near
+near-same d e = rw e
+
 -- ---- a condition with its helpers
 
 pub step-is : (q : Condition) (d : ℕ) → stepCode q d ≡ conditionCode q (near d) ++ helpers d

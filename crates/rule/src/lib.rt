@@ -7,7 +7,7 @@ ghost use lib.ListN.{length};
 ghost use Rattle.definitions.specs.Machine.{filterBytes};
 ghost use Rattle.definitions.specs.Emitted as emitted;
 ghost use Rattle.definitions.specs.Emitted.{helpers, stepCode, stepDistance, conditionsCode, distance, ruleCode, rulesCode};
-ghost use Rattle.bpf.specs.Place.{place, placeBefore};
+ghost use Rattle.bpf.specs.Place.{place, placeBefore, PutBefore};
 ghost use Rattle.rule.specs.At.{conditionsHere, rulesHere, rulesPast};
 use bpf::jump_by;
 use bpf::wide;
@@ -33,25 +33,20 @@ fn near(d: u8) -> u8
     d
 }
 
-fn helper_count(d: u8) -> usize
-    ensures { λ r. ⌜ (r ≡ length (helpers d)) × (r ≤ 3) ⌝ }
-{
-    if is_far(d) {
-        return 3;
-    }
-    0
-}
-
-fn put_helpers(out: &mut [u8], at: usize, d: u8)
-    requires { ⌜ at + 8 * length (helpers d) ≤ length (now out) ⌝ }
-    ensures { λ _. ⌜ now (out .exit) ≡ place (now (out .entry)) at (filterBytes (helpers d)) ⌝ }
+// Writes the helper jumps so that they end at a place, and answers the place where they begin.
+fn put_helpers(out: &mut [u8], end: usize, d: u8) -> usize
+    requires { ⌜ (8 * length (helpers d) ≤ end) × (end ≤ length (now out)) ⌝ }
+    ensures { λ r. ⌜ PutBefore (now (out .entry)) end (helpers d) (now (out .exit)) r ⌝ }
 {
     if is_far(d) {
         let far = jump_by(wide(d) + 1);
+        let at = end - 24;
         bpf::put(out, at, jump_by(2));
         bpf::put(out, at + 8, far);
         bpf::put(out, at + 16, far);
+        return at;
     }
+    end
 }
 
 // How many instructions a condition puts in front, and the distance then.
@@ -65,18 +60,38 @@ pub fn step_length(q: Condition, d: u8) -> Step
     ensures { λ r. ⌜ (r .count ≡ length (stepCode q d)) × (r .distance ≡ stepDistance q d) × (r .count ≤ 9) ⌝ }
 {
     let count = condition::condition_length(q);
+    let more = count as u8;
+    if is_far(d) {
+        return Step {
+            count: count + 3,
+            distance: 1 + more,
+        };
+    }
     Step {
-        count: count + helper_count(d),
-        distance: near(d) + (count as u8),
+        count: count,
+        distance: d + more,
     }
 }
 
-fn put_step(out: &mut [u8], at: usize, q: Condition, d: u8)
-    requires { ⌜ at + 8 * length (stepCode q d) ≤ length (now out) ⌝ }
-    ensures { λ _. ⌜ now (out .exit) ≡ place (now (out .entry)) at (filterBytes (stepCode q d)) ⌝ }
+// Where a condition was put, and the distance in front of it.
+pub struct Put {
+    pub at: usize,
+    pub distance: u8,
+}
+
+// Writes a condition with its helpers so that they end at a place.
+fn put_step(out: &mut [u8], end: usize, q: Condition, d: u8) -> Put
+    requires { ⌜ (8 * length (stepCode q d) ≤ end) × (end ≤ length (now out)) ⌝ }
+    ensures { λ r. ⌜ PutBefore (now (out .entry)) end (stepCode q d) (now (out .exit)) (r .at) × (r .distance ≡ stepDistance q d) ⌝ }
 {
-    let behind = condition::put_condition(out, at, q, near(d));
-    put_helpers(out, behind, d);
+    let behind = put_helpers(out, end, d);
+    let f = near(d);
+    let at = condition::put_condition(out, behind, q, f);
+    let count = (behind - at) / 8;
+    Put {
+        at: at,
+        distance: f + (count as u8),
+    }
 }
 
 // Writes n conditions so that they end at a place, and answers the distance in front of them.
@@ -91,10 +106,8 @@ fn put_conditions(out: &mut [u8], s: &[u8], n: u32, from: usize, end: usize) -> 
     let mut here = from;
     let mut left = n;
     while left != 0 {
-        let q = condition_here(s, here);
-        let step = step_length(q, d);
-        at = at - 8 * step.count;
-        put_step(out, at, q, d);
+        let step = put_step(out, at, condition_here(s, here), d);
+        at = step.at;
         d = step.distance;
         here = here + CONDITION_SIZE;
         left = left - 1;

@@ -2,67 +2,48 @@
 -- Assumes nothing.
 use borrow.Author.Needs.{needs}
 use native.Mathlib.Omega.{arith}
-use Rattle.condition.proofs.Laws.{dword-length, dword-put, qword-length, qword-put}
+use Rattle.bpf.proofs.Laws.{put-both}
+use Rattle.condition.proofs.Laws.{dword-is, qword-is, condition-long, low-long, low-fits}
 use Rattle.condition.proofs.put_condition.Statement.{statement}
 use Rattle.condition.proofs.put_condition.Tie as tie
 
-low-part-requires : tie.Need-low-part-requires
-low-part-requires c κs = search needs
+put-low-requires : tie.Need-put-low-requires
+put-low-requires c κs = (let n = low-fits (c .before .before .args .q) (c .before .before .args .f) in omega (arith, c .before .before .pre), c .before .before .pre .2)
 
 enum-told : tie.Need-enum-told
 enum-told c = search needs
 
-put-part-requires : tie.Need-put-part-requires
-put-part-requires c κs =
-    let n = dword-length _ _ _ (c .before .enum-told .given .1) (c .before .before .before .low-part .ensures) in
-    omega arith
-
 enum-told-2 : tie.Need-enum-told-2
 enum-told-2 c = search needs
 
-high-part-requires : tie.Need-high-part-requires
-high-part-requires c κs = search needs
-
-put-part-requires-2 : tie.Need-put-part-requires-2
-put-part-requires-2 c κs =
-    let n = qword-length _ _ _ _ (c .before .before .enum-told2 .given .1) (c .high-part .ensures) (c .before .before .before .before .low-part .ensures) in
-    omega arith
-
-put-part-requires-3 : tie.Need-put-part-requires-3
-put-part-requires-3 c κs =
-    let n = qword-length _ _ _ _ (c .before .before .before .before .before .before .enum-told2 .given .1) (c .before .before .before .before .high-part .ensures) (c .before .before .before .before .before .before .before .before .low-part .ensures) in
-    omega (arith, c .before .before .before .put-part2 .kept .0)
+put-high-requires : tie.Need-put-high-requires
+put-high-requires c κs =
+    let q = c .before .before .before .before .before .before .before .before .args .q in
+    let f = c .before .before .before .before .before .before .before .before .args .f in
+    let n = condition-long q f (c .before .enum-told2 .given .1) in
+    let l = low-long q f in
+    (c .before .before .before .before .before .before .before .before .pre .0, omega (arith, c .before .before .before .before .before .put-low .ensures .spot, c .before .before .before .before .before .before .before .before .pre), omega (arith, c .before .before .before .before .before .put-low .ensures .spot, c .before .before .before .before .before .put-low .kept .0, c .before .before .before .before .before .before .before .before .pre))
 
 same-length : tie.Need-same-length
 same-length c = search needs
 
 returns : tie.Need-returns
-returns c =
-    let n = dword-length _ _ _ (c .before .before .before .before .enum-told .given .1) (c .before .before .before .before .before .before .low-part .ensures) in
-    (rw (c .before .before .put-part .ensures .0) (dword-put _ _ _ _ _ (c .before .before .before .before .enum-told .given .1) (c .before .before .before .before .before .before .low-part .ensures)), omega arith)
+returns c = rw (dword-is (c .before .before .before .before .before .before .before .args .q) (c .before .before .before .before .before .before .before .args .f) (c .enum-told .given .1)) (c .before .before .before .before .put-low .ensures)
 
 same-length-2 : tie.Need-same-length-2
 same-length-2 c = search needs
 
 returns-2 : tie.Need-returns-2
-returns-2 c =
-    let n = qword-length _ _ _ _ (c .before .before .before .before .before .before .before .before .before .enum-told2 .given .1) (c .before .before .before .before .before .before .before .high-part .ensures) (c .before .before .before .before .before .before .before .before .before .before .before .low-part .ensures) in (
-      rw (c .before .before .put-part3 .ensures .0, c .before .before .before .before .before .before .put-part2 .ensures .0)
-          (qword-put _ _ _ _ _ _ _ (c .before .before .before .before .before .before .before .before .before .enum-told2 .given .1) (c .before .before .before .before .before .before .before .high-part .ensures) (c .before .before .before .before .before .before .before .before .before .before .before .low-part .ensures) (c .before .before .before .before .before .before .put-part2 .ensures .1) (omega arith)),
-      omega arith,
-    )
+returns-2 c = rw (qword-is (c .before .before .before .before .before .before .before .before .before .before .before .args .q) (c .before .before .before .before .before .before .before .before .before .before .before .args .f) (c .before .before .before .before .enum-told2 .given .1)) (put-both (c .before .before .before .before .before .before .before .before .before .before .before .pre .2) (c .before .before .before .before .before .before .before .before .put-low .ensures) (c .before .before .put-high .ensures))
 
 pub put-condition-spec : {M : Type 1} → statement M
 put-condition-spec =
     tie.close
     (tie.spec
-    low-part-requires
+    put-low-requires
     enum-told
-    put-part-requires
     enum-told-2
-    high-part-requires
-    put-part-requires-2
-    put-part-requires-3
+    put-high-requires
     same-length
     returns
     same-length-2

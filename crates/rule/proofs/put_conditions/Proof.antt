@@ -7,7 +7,7 @@ use borrow.Author.Needs.{needs}
 use lib.ListN.{length}
 use denote.Ref.{now}
 use Rattle.definitions.specs.Emitted.{conditionsCode, distance}
-use Rattle.bpf.proofs.Laws.{WritingBefore, before-begin, before-turn, before-end}
+use Rattle.bpf.proofs.Laws.{WritingBefore, put-where, before-begin, before-turn, before-end}
 use Rattle.rule.specs.At.{conditionsHere}
 use Rattle.rule.proofs.Laws.{code-more, code-none, step-room, distance-more, distance-none}
 use Rattle.rule.proofs.put_conditions.Statement.{statement}
@@ -28,31 +28,11 @@ loop-holds c = (before-begin _ _ _ (omega arith) (omega arith), refl, omega arit
 condition-here-requires : tie.Need-condition-here-requires Inv-loop μ-loop
 condition-here-requires c κs = omega arith
 
-step-length-requires : tie.Need-step-length-requires Inv-loop μ-loop
-step-length-requires c κs = search needs
-
-mul-at : tie.Need-mul-at Inv-loop μ-loop
-mul-at c = omega arith
-
-sub-at : tie.Need-sub-at Inv-loop μ-loop
-sub-at c =
-    let s = now (c .before .before .before .before .before .before .before .args .s) in
-    let left = c .before .before .before .before .loop .left in
-    let here = c .before .before .before .before .loop .here in
-    let d = c .before .before .before .before .loop .d in
-    let r = step-room s left here d (c .before .before .before .loop-test .taken) (c .before .before .before .before .loop .inv .0) in
-    let n = rw (c .before .before .condition-here .ensures) at (c .before .step-length .ensures .0) in
-    omega arith
-
 put-step-requires : tie.Need-put-step-requires Inv-loop μ-loop
 put-step-requires c κs =
-    let s = now (c .before .before .before .before .before .before .before .before .args .s) in
-    let left = c .before .before .before .before .before .loop .left in
-    let here = c .before .before .before .before .before .loop .here in
-    let d = c .before .before .before .before .before .loop .d in
-    let r = step-room s left here d (c .before .before .before .before .loop-test .taken) (c .before .before .before .before .before .loop .inv .0) in
-    let n = rw (c .before .before .before .condition-here .ensures) at (c .before .before .step-length .ensures .0) in
-    omega (arith, c .before .before .before .before .before .loop .inv .0 .fits)
+    let s = now (c .before .before .before .before .before .before .args .s) in
+    let r = step-room s (c .before .before .before .loop .left) (c .before .before .before .loop .here) (c .before .before .before .loop .d) (c .before .before .loop-test .taken) (c .before .before .before .loop .inv .0) in
+    (rw (c .condition-here .ensures) r, c .before .before .before .loop .inv .0 .fits)
 
 add-here : tie.Need-add-here Inv-loop μ-loop
 add-here c = omega arith
@@ -65,16 +45,12 @@ loop-less c = omega arith
 
 loop-again : tie.Need-loop-again Inv-loop μ-loop
 loop-again c =
-    let s = now (c .before .before .before .before .before .before .before .before .before .before .before .args .s) in
-    let left = c .before .before .before .before .before .before .before .before .loop .left in
-    let here = c .before .before .before .before .before .before .before .before .loop .here in
-    let d = c .before .before .before .before .before .before .before .before .loop .d in
-    let r = step-room s left here d (c .before .before .before .before .before .before .before .loop-test .taken) (c .before .before .before .before .before .before .before .before .loop .inv .0) in
-    let n = rw (c .before .before .before .before .before .before .condition-here .ensures) at (c .before .before .before .before .before .step-length .ensures .0) in
-    let e = rw (c .before .before .before .before .before .before .condition-here .ensures) at (c .before .before .before .before .before .step-length .ensures .1) in
-    let o = rw (c .before .before .before .before .before .before .condition-here .ensures) at (c .before .before .put-step .ensures) in (
-      rw e (before-turn _ _ _ _ _ _ _ _ _ _ (c .before .before .before .before .before .before .before .before .loop .inv .0) (code-more s left here d (c .before .before .before .before .before .before .before .loop-test .taken)) (omega arith) o (c .before .before .put-step .kept .0)),
-      rw e (sym (distance-more s left here d (c .before .before .before .before .before .before .before .loop-test .taken)) ∙ c .before .before .before .before .before .before .before .before .loop .inv .1),
+    let s = now (c .before .before .before .before .before .before .before .before .before .args .s) in
+    let more = code-more s (c .before .before .before .before .before .before .loop .left) (c .before .before .before .before .before .before .loop .here) (c .before .before .before .before .before .before .loop .d) (c .before .before .before .before .before .loop-test .taken) in
+    let o = rw (c .before .before .before .condition-here .ensures) at (c .before .before .put-step .ensures .0) in
+    let e = rw (c .before .before .before .condition-here .ensures) at (c .before .before .put-step .ensures .1) in (
+      rw e (before-turn _ _ _ _ _ _ _ _ _ _ (c .before .before .before .before .before .before .loop .inv .0) more (o .spot) (put-where o) (c .before .before .put-step .kept .0)),
+      rw e (sym (distance-more s (c .before .before .before .before .before .before .loop .left) (c .before .before .before .before .before .before .loop .here) (c .before .before .before .before .before .before .loop .d) (c .before .before .before .before .before .loop-test .taken)) ∙ c .before .before .before .before .before .before .loop .inv .1),
       omega arith,
     )
 
@@ -98,9 +74,6 @@ put-conditions-spec =
     μ-loop
     loop-holds
     condition-here-requires
-    step-length-requires
-    mul-at
-    sub-at
     put-step-requires
     add-here
     sub-left

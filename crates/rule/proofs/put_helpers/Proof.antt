@@ -3,7 +3,7 @@ use borrow.Author.Needs.{needs}
 use mathlib.Core.Path.{ap, sym, _∙_}
 use native.Mathlib.Omega.{arith}
 use lib.ListN.{length}
-use Rattle.bpf.proofs.Laws.{put-3}
+use Rattle.bpf.proofs.Laws.{put-3, put-at}
 use Rattle.rule.proofs.Laws.{put-none, helpers-none, helpers-three}
 use Rattle.rule.proofs.put_helpers.Statement.{statement}
 use Rattle.rule.proofs.put_helpers.Tie as tie
@@ -19,6 +19,11 @@ add-jump-by c = search needs
 
 jump-by-requires : tie.Need-jump-by-requires
 jump-by-requires c κs = search needs
+
+sub-at : tie.Need-sub-at
+sub-at c =
+    let n = ap length (helpers-three (c .before .before .before .before .before .args .d) (sym (c .before .before .before .is-far .ensures) ∙ c .before .before .if1 .taken)) in
+    omega arith
 
 jump-by-requires-2 : tie.Need-jump-by-requires-2
 jump-by-requires-2 c κs = search needs
@@ -51,11 +56,11 @@ returns : tie.Need-returns
 returns c =
     let e = helpers-three (c .before .before .before .before .before .before .before .before .before .before .before .before .before .before .before .before .before .before .args .d) (sym (c .before .before .before .before .before .before .before .before .before .before .before .before .before .before .before .before .is-far .ensures) ∙ c .before .before .before .before .before .before .before .before .before .before .before .before .before .before .before .if1 .taken) in
     let n = ap length e in
-    rw (e, c .before .before .put3 .ensures, c .before .before .before .before .before .before .put2 .ensures, c .before .before .before .before .before .before .before .before .before .before .put .ensures, c .before .before .before .before .before .before .before .before .before .before .before .before .before .jump-by .ensures, c .before .before .before .before .before .before .before .before .before .before .before .jump-by2 .ensures, c .before .before .before .before .before .before .before .before .before .before .before .before .before .before .wide .ensures .0)
-    (put-3 _ _ _ _ _ (omega arith))
+    rw e
+    (put-at (omega arith) (rw (c .before .before .put3 .ensures, c .before .before .before .before .before .before .put2 .ensures, c .before .before .before .before .before .before .before .before .before .before .put .ensures, c .before .before .before .before .before .before .before .before .before .before .before .before .before .jump-by .ensures, c .before .before .before .before .before .before .before .before .before .before .before .jump-by2 .ensures, c .before .before .before .before .before .before .before .before .before .before .before .before .before .before .wide .ensures .0) (put-3 _ _ _ _ _ (omega arith))))
 
 returns-2 : tie.Need-returns-2
-returns-2 c = rw (helpers-none (c .before .before .before .args .d) (sym (c .before .is-far .ensures) ∙ c .if1 .left)) (sym (put-none _ _))
+returns-2 c = rw (helpers-none (c .before .before .before .args .d) (sym (c .before .is-far .ensures) ∙ c .if1 .left)) (put-at (omega arith) (sym (put-none _ _)))
 
 pub put-helpers-spec : {M : Type 1} → statement M
 put-helpers-spec =
@@ -65,6 +70,7 @@ put-helpers-spec =
     wide-requires
     add-jump-by
     jump-by-requires
+    sub-at
     jump-by-requires-2
     put-requires
     add-put
