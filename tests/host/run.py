@@ -18,6 +18,7 @@ TARGET = ROOT / "target" / "host"
 HEADER = ROOT / "host" / "callfilter.h"
 CRATE = ROOT / "host" / "rust"
 LIBRARY = TARGET / "libcallfilter.rlib"
+RUST_COUNTS = r"test result: \w+\. (\d+) passed; (\d+) failed"
 STRICT = ("-O2", "-Wall", "-Wextra", "-pedantic", "-Werror", "-I", HEADER.parent)
 
 
@@ -37,14 +38,17 @@ class Tally:
         self.skipped += 1
         print(f"skipped {name}: {why}")
 
-    def counted(self, name, text, pattern):
-        """Adds what a program counted itself; one that counted nothing has failed."""
-        counts = [tuple(map(int, found)) for found in re.findall(pattern, text)]
+    def counted(self, name, pattern, *words, **more):
+        """Runs a program, and adds what it counted; one that counted nothing, or fails without counting a failure, is a failure itself."""
+        status, said = run(*words, **more)
+        counts = [tuple(map(int, found)) for found in re.findall(pattern, said)]
         passed, failed = (sum(count[place] for count in counts) for place in (0, 1))
-        if passed + failed == 0 or failed:
-            print(text)
+        if not failed and (status or not passed):
+            failed = 1
+        if failed:
+            print(said)
         self.passed += passed
-        self.failed += failed if passed + failed else 1
+        self.failed += failed
         print(f"{name}: {passed} passed, {failed} failed")
 
 
@@ -83,7 +87,7 @@ def header(tally):
         program = TARGET / f"boundary-{standard}"
         if built(tally, f"the header and a host in {name}", compiler, f"-std={standard}", *STRICT, "-x", language, HERE / "boundary.c",
                  "-x", "none", archive.ARCHIVE, "-o", program):
-            tally.counted(f"the boundary from {name}", run(program)[1], r"(?m)^(\d+) passed, (\d+) failed$")
+            tally.counted(f"the boundary from {name}", r"(?m)^(\d+) passed, (\d+) failed$", program)
 
 
 # ---- the crate
@@ -109,14 +113,10 @@ def crate(tally):
     for path, words in programs:
         program = TARGET / f"test-{path.stem}"
         if built(tally, f"the tests of {path.stem}", *rustc, "--test", path, *words, "-o", program):
-            cargo_counts(tally, path.stem, program)
+            tally.counted(path.stem, RUST_COUNTS, program)
     # the codes that wrong uses must be refused with are looked at only by a rustdoc that takes unstable features
-    cargo_counts(tally, "examples of the documentation", "rustdoc", "--test", "--edition", "2021", "--crate-name", "callfilter", source,
-                 "--extern", f"callfilter={LIBRARY}", env={**os.environ, "RUSTC_BOOTSTRAP": "1"})
-
-
-def cargo_counts(tally, name, *words, **more):
-    tally.counted(name, run(*words, **more)[1], r"test result: \w+\. (\d+) passed; (\d+) failed")
+    tally.counted("examples of the documentation", RUST_COUNTS, "rustdoc", "--test", "--edition", "2021", "--crate-name", "callfilter", source,
+                  "--extern", f"callfilter={LIBRARY}", env={**os.environ, "RUSTC_BOOTSTRAP": "1"})
 
 
 def cargo(tally, expected):

@@ -78,6 +78,22 @@ mod tests {
     use super::*;
 
     #[test]
+    fn words_are_those_of_linux_seccomp_h() {
+        let words = [
+            (Action::KillProcess, 0x8000_0000, "kill process"),
+            (Action::KillThread, 0x0000_0000, "kill thread"),
+            (Action::Trap, 0x0003_0000, "trap"),
+            (Action::Errno(13), 0x0005_000d, "errno 13"),
+            (Action::Trace(0xffff), 0x7ff0_ffff, "trace 65535"),
+            (Action::Log, 0x7ffc_0000, "log"),
+            (Action::Allow, 0x7fff_0000, "allow"),
+        ];
+        for (action, word, name) in words {
+            assert_eq!((action.word(), action.to_string()), (word, name.to_owned()));
+        }
+    }
+
+    #[test]
     fn every_word_names_the_action_that_has_it() {
         let mut known = 0;
         for upper in 0..=0xffff_u32 {
