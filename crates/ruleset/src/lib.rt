@@ -48,10 +48,11 @@ fn both(a: bool, b: bool) -> bool
 pub fn width_known(width: u8) -> bool
     ensures { λ r. ⌜ r ≡ isThere (widthOf width) ⌝ }
 {
-    if width == 4 {
-        return true;
+    match width {
+        4 => true,
+        8 => true,
+        _ => false,
     }
-    width == 8
 }
 
 // Whether a number stands for an architecture.
@@ -84,11 +85,12 @@ fn condition_there(s: &[u8], at: usize) -> bool
     if 6 < operator {
         return false;
     }
-    if operator == 5 {
+    // most masks are zero, whatever the operator
+    let mask = bpf::u64_at(s, at + 16);
+    if mask == 0 {
         return true;
     }
-    let mask = bpf::u64_at(s, at + 16);
-    mask == 0
+    operator == 5
 }
 
 fn scan_conditions(s: &[u8], n: u32, from: usize) -> Scan

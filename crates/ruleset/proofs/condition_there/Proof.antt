@@ -1,4 +1,5 @@
 -- `condition_there` meets its contract: one test after the other, in the order of `conditionTaken`.
+use mathlib.Core.Bool.{or-true, or-false}
 use borrow.Author.Needs.{needs}
 use borrow.Author.Tests.{lt-leb, le-leb, eq-eqb, ne-eqb, not-true, not-false}
 use denote.Ref.{now}
@@ -49,21 +50,21 @@ unfolding conditionTaken
 returns-4 c =
     rw (condition-there (now (c .before .before .before .before .before .before .before .before .before .args .s)) (c .before .before .before .before .before .before .before .before .before .args .at) (λ i. omega (arith, c .before .before .before .before .before .before .before .before .shared-slice-known .given i)), le-leb _ _ (c .before .before .before .before .before .before .before .if1 .left), ← c .before .before .before .before .before .before .u64-at .ensures, eq-eqb _ _ (c .before .before .before .before .before .if2 .left), ← c .before .before .before .width-known .ensures, not-false (c .before .before .before .width-known .result) (c .before .before .if3 .left), lt-leb _ _ (c .if4 .taken))
 
-returns-5 : tie.Need-returns-5
-unfolding conditionTaken
-returns-5 c =
-    rw (condition-there (now (c .before .before .before .before .before .before .before .before .before .before .args .s)) (c .before .before .before .before .before .before .before .before .before .before .args .at) (λ i. omega (arith, c .before .before .before .before .before .before .before .before .before .shared-slice-known .given i)), le-leb _ _ (c .before .before .before .before .before .before .before .before .if1 .left), ← c .before .before .before .before .before .before .before .u64-at .ensures, eq-eqb _ _ (c .before .before .before .before .before .before .if2 .left), ← c .before .before .before .before .width-known .ensures, not-false (c .before .before .before .before .width-known .result) (c .before .before .before .if3 .left), le-leb _ _ (c .before .if4 .left), eq-eqb _ _ (c .if5 .taken))
-
 add-u64-at : tie.Need-add-u64-at
 add-u64-at c = search needs
 
 u64-at-requires-2 : tie.Need-u64-at-requires-2
 u64-at-requires-2 c κs = search needs
 
+returns-5 : tie.Need-returns-5
+unfolding conditionTaken
+returns-5 c =
+    rw (condition-there (now (c .before .before .before .before .before .before .before .before .before .before .before .args .s)) (c .before .before .before .before .before .before .before .before .before .before .before .args .at) (λ i. omega (arith, c .before .before .before .before .before .before .before .before .before .before .shared-slice-known .given i)), le-leb _ _ (c .before .before .before .before .before .before .before .before .before .if1 .left), ← c .before .before .before .before .before .before .before .before .u64-at .ensures, eq-eqb _ _ (c .before .before .before .before .before .before .before .if2 .left), ← c .before .before .before .before .before .width-known .ensures, not-false (c .before .before .before .before .before .width-known .result) (c .before .before .before .before .if3 .left), le-leb _ _ (c .before .before .if4 .left), ← c .before .u64-at2 .ensures, eq-eqb _ _ (c .if5 .taken), or-true)
+
 returns-6 : tie.Need-returns-6
 unfolding conditionTaken
 returns-6 c =
-    rw (condition-there (now (c .before .before .before .before .before .before .before .before .before .before .before .args .s)) (c .before .before .before .before .before .before .before .before .before .before .before .args .at) (λ i. omega (arith, c .before .before .before .before .before .before .before .before .before .before .shared-slice-known .given i)), le-leb _ _ (c .before .before .before .before .before .before .before .before .before .if1 .left), ← c .before .before .before .before .before .before .before .before .u64-at .ensures, eq-eqb _ _ (c .before .before .before .before .before .before .before .if2 .left), ← c .before .before .before .before .before .width-known .ensures, not-false (c .before .before .before .before .before .width-known .result) (c .before .before .before .before .if3 .left), le-leb _ _ (c .before .before .if4 .left), ne-eqb _ _ (c .before .if5 .left), ← c .u64-at2 .ensures)
+    rw (condition-there (now (c .before .before .before .before .before .before .before .before .before .before .before .args .s)) (c .before .before .before .before .before .before .before .before .before .before .before .args .at) (λ i. omega (arith, c .before .before .before .before .before .before .before .before .before .before .shared-slice-known .given i)), le-leb _ _ (c .before .before .before .before .before .before .before .before .before .if1 .left), ← c .before .before .before .before .before .before .before .before .u64-at .ensures, eq-eqb _ _ (c .before .before .before .before .before .before .before .if2 .left), ← c .before .before .before .before .before .width-known .ensures, not-false (c .before .before .before .before .before .width-known .result) (c .before .before .before .before .if3 .left), le-leb _ _ (c .before .before .if4 .left), ← c .before .u64-at2 .ensures, ne-eqb _ _ (c .if5 .left), or-false)
 
 pub condition-there-spec : {M : Type 1} → statement M
 condition-there-spec =
@@ -80,7 +81,7 @@ condition-there-spec =
     add-operator
     shared-slice-read-operator
     returns-4
-    returns-5
     add-u64-at
     u64-at-requires-2
+    returns-5
     returns-6)
