@@ -181,10 +181,10 @@ fn scan_rules(s: &[u8], n: u32, from: usize) -> Scan
 fn body_length(n: u32, rules: usize) -> usize
     ensures { λ r. ⌜ r ≡ bodyOr n rules ⌝ }
 {
-    if n == 0 {
-        return 3;
+    if n != 0 {
+        return rules;
     }
-    rules
+    3
 }
 
 fn scan_entry(s: &[u8], at: usize) -> Scan

@@ -32,7 +32,7 @@ abbrev pub OfTheFormat : Type 0
 OfTheFormat = (rs : RuleSet) (out : List ℕ) (w : Writer) → Made rs out w → (room : ℕ) → answerOf (take (w .end) out) room .code ≡ 1 → ⊥
 
 -- where the numbers were listed in ascending order, the actions differ, no rule was left without conditions and no index is above 5,
--- they compile, unless the filter is too long for the kernel or for the buffer
+-- they compile, unless the filter is too long or the buffer too short
 abbrev pub Compiling : Type 0
 Compiling =
     (rs : RuleSet) (out : List ℕ) (w : Writer) → Made rs out w

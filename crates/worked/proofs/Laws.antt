@@ -5,7 +5,6 @@ use mathlib.Core.List.{List, [], _∷_}
 use mathlib.Core.Option.{some}
 use Prim.Native.Nat.{ℕ, _+_, _*_, _≤_, _<_}
 use native.Mathlib.Omega.{arith}
-use lib.Dec.{eqb}
 use lib.ListN.{length, take, length-append}
 use borrow.Author.Tests.{eq-eqb}
 use Rattle.definitions.specs.declared.Condition.{Condition}
@@ -19,7 +18,7 @@ use Rattle.definitions.specs.Format.{joined, encodeCondition, encodeRule, encod
 use Rattle.definitions.specs.Compiled.{FormOf, Compiled}
 use Rattle.definitions.specs.Parts.{withRule, withCondition, conditionOf, conditionPart}
 use Rattle.definitions.specs.Writers.{Added, Holds}
-use Rattle.definitions.specs.Readers.{stopped, headOf, atEntry, entryOf, ruleOf, comparedOf, Left}
+use Rattle.definitions.specs.Readers.{headOf, atEntry, entryOf, ruleOf, comparedOf, Left}
 use Rattle.theorems.proofs.Forms.{length-condition, length-rule, length-entry}
 use Rattle.theorems.proofs.Answers.{compiles}
 use Rattle.builder.proofs.Back.{left-long, head-back, entry-back, rule-back, condition-back, all-read}

@@ -1,5 +1,4 @@
 -- `next_part` meets its contract: whichever part is next, its reader gives it.
-use mathlib.Core.Path.{sym}
 use Rattle.worked.proofs.Laws.{condition-walked, rule-walked, entry-walked}
 use borrow.Author.Needs.{needs}
 use Rattle.worked.proofs.next_part.Statement.{statement}
