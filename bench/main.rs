@@ -35,6 +35,7 @@ extern "C" {
 const LONGEST_FILTER: usize = 8 * 4095;
 const TIME_FOR_A_SET: Duration = Duration::from_millis(1500);
 const LIMIT: f64 = 5e6;
+const AUDIT_ARCH_X86_64: u32 = 0xc000_003e;
 
 fn ours(set: &[u8], out: &mut [u8]) -> Answer {
     unsafe { callfilter_compile(set.as_ptr(), set.len(), out.as_mut_ptr(), out.len()) }
@@ -133,14 +134,56 @@ fn compare(name: &str, set: &[u8]) {
         });
     }
     println!(
-        "| {name} | {} | {} | {by_ours:.0} ns | {:.2} ns | {:.1} | {:.1} | {:.1} |",
+        "| {name} | {} | {} | {by_ours:.0} ns | {:.2} ns | {:.1} | {:.1} | {:.1} | {:.0} | {:.0} |",
         set.len(),
         program.len(),
         by_ours / program.len() as f64,
         by_objects / by_ours,
         by_bytes / by_ours,
-        by_ours / by_copy
+        by_ours / by_copy,
+        by_objects / by_copy,
+        by_bytes / by_copy
     );
+}
+
+// how many instructions of a filter a call with a number and arguments runs: of the codes that compiling emits
+fn instructions_run(program: &BpfProgram, number: u32, argument: u64) -> usize {
+    let mut words = [0; 16];
+    (words[0], words[1]) = (number, AUDIT_ARCH_X86_64);
+    for place in (4..16).step_by(2) {
+        (words[place], words[place + 1]) = (argument as u32, (argument >> 32) as u32);
+    }
+    let (mut at, mut run, mut loaded) = (0, 0, 0);
+    loop {
+        let step = &program[at];
+        let jump = |taken: bool| usize::from(if taken { step.jt } else { step.jf });
+        run += 1;
+        at += 1;
+        match step.code {
+            0x20 => loaded = words[step.k as usize / 4],
+            0x54 => loaded &= step.k,
+            0x05 => at += step.k as usize,
+            0x15 => at += jump(loaded == step.k),
+            0x25 => at += jump(loaded > step.k),
+            0x35 => at += jump(loaded >= step.k),
+            0x06 => return run,
+            code => panic!("code {code:#x}"),
+        }
+    }
+}
+
+// over the listed numbers, then over as many that are not listed
+fn run_lengths(name: &str, set: &[u8]) {
+    let filter = filter_from(set).expect("a set of the format");
+    let program = BpfProgram::try_from(filter).expect("a filter");
+    let listed = format::read_set(set).expect("a set of the format").entries.iter().map(|entry| entry.number).collect::<Vec<_>>();
+    let others = (0..).filter(|number| listed.binary_search(number).is_err()).take(listed.len()).collect::<Vec<_>>();
+    let told = |numbers: &[u32]| {
+        let runs = numbers.iter().flat_map(|number| [0, u64::MAX].map(|argument| instructions_run(&program, *number, argument)));
+        let runs = runs.collect::<Vec<_>>();
+        format!("{} | {:.0}", runs.iter().max().expect("a number"), runs.iter().sum::<usize>() as f64 / runs.len() as f64)
+    };
+    println!("| {name} | {} | {} | {} |", program.len(), told(&listed), told(&others));
 }
 
 // the best time, and the middle one, which is held to the limit
@@ -172,10 +215,16 @@ fn main() {
         fields.filter(|field| field[0] == wanted).map(row).collect()
     };
 
-    println!("| set | bytes | instructions | ours | per instruction | seccompiler from objects takes, times ours | from bytes, times ours | ours, times a copy |");
-    println!("|---|---|---|---|---|---|---|---|");
+    println!("| set | bytes | instructions | ours | per instruction | seccompiler from objects takes, times ours | from bytes, times ours | ours, times a copy | from objects, times a copy | from bytes, times a copy |");
+    println!("|---|---|---|---|---|---|---|---|---|---|");
     for (name, _, set) in rows("compare") {
         compare(&name, &set);
+    }
+    println!();
+    println!("| instructions run for a call | of | listed: worst | mean | not listed: worst | mean |");
+    println!("|---|---|---|---|---|---|");
+    for (name, _, set) in rows("compare") {
+        run_lengths(&name, &set);
     }
     println!();
     println!("| set of 1 MiB | bytes | answer | best | middle | under 5 ms |");
