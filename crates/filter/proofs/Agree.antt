@@ -11,7 +11,8 @@ use borrow.Author.Tests.{eqb-true, leb-true}
 use Rattle.definitions.specs.Word.{numberAt}
 use Rattle.definitions.specs.RuleSet.{Architecture, x86-64, aarch64, Entry, RuleSet, isAction}
 use Rattle.definitions.specs.Format.{Read, architectureOf, times, ruleAt, entryAt, read}
-use Rattle.theorems.proofs.Tests.{both-true, check-some, then-some}
+use Rattle.theorems.proofs.Tests.{check-some, then-some}
+use Rattle.theorems.proofs.Reading.{seen}
 use Rattle.condition.proofs.Agree.{Reads}
 use Rattle.rule.proofs.Agree.{rules-agree}
 use Rattle.filter.specs.At.{namedArchitecture, entryHere, entryPast, entriesHere, entriesPast, setHere}
@@ -44,19 +45,9 @@ entries-agree s (suc n) at {r} h =
 
 pub read-agrees : (s : List ℕ) (rs : RuleSet) → read s ≡ some rs
     → (rs ≡ setHere s) × (16 ≤ length s) × (length s ≤ 1048576) × (entriesPast s (numberAt 4 s 12) 16 ≡ length s)
-unfolding read setHere
+unfolding setHere
 read-agrees s rs h =
-    let a = check-some (leb (length s) (2 ^ 20) && leb 16 (length s) && isAction (numberAt 4 s 4) && isAction (numberAt 4 s 8)) _ h in
-    let t3 = both-true _ (isAction (numberAt 4 s 8)) (a .0) in
-    let t2 = both-true _ (isAction (numberAt 4 s 4)) (t3 .0) in
-    let t1 = both-true (leb (length s) (2 ^ 20)) (leb 16 (length s)) (t2 .0) in
-    let w = then-some (architectureOf (numberAt 4 s 0)) _ (a .1) in
-    let es = then-some (times (entryAt s) (numberAt 4 s 12) 16) _ (w .2) in
-    let end = check-some (eqb (es .0 .past) (length s)) _ (es .2) in
-    let x = architecture-agrees (numberAt 4 s 0) (w .0) (w .1) in
-    let e = entries-agree s (numberAt 4 s 12) 16 (es .1) in (
-      rw (← x, ← e .0) (cc),
-      leb-true 16 (length s) (t1 .1),
-      leb-true (length s) (2 ^ 20) (t1 .0),
-      sym (e .1) ∙ eqb-true (es .0 .past) (length s) (end .0),
-    )
+    let r = seen s rs h in
+    let e = entries-agree s (numberAt 4 s 12) 16 (r .entries) in
+    let same : rs ≡ setHere s = rw (← architecture-agrees (numberAt 4 s 0) (rs .architecture) (r .architecture), ← e .0, ← r .mismatch, ← r .onMatch) in
+    (same, r .long, r .short, sym (e .1))

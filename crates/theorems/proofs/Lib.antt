@@ -13,6 +13,7 @@ pub mod Words
 pub mod Bytes
 pub mod Names
 pub mod Forms
+pub mod Reading
 pub mod RoundTrip
 pub mod Grows
 pub mod Answers

@@ -21,6 +21,7 @@ use Rattle.definitions.specs.Format.{Each, ConditionInRange, EntryInRange, InRa
 use Rattle.definitions.specs.Format.{architectureOf, widthOf, operatorOf, maskTaken, Read, then, times, conditionAt, ruleAt, entryAt, read}
 use Rattle.theorems.specs.Statements.{RoundTrip, OneForm}
 use Rattle.theorems.proofs.Tests.{both-true, each-both, then-some, check-some, some-same}
+use Rattle.theorems.proofs.Reading.{seen}
 use Rattle.theorems.proofs.Taken.{action-small}
 use Rattle.theorems.proofs.Conditions.{compared}
 use Rattle.theorems.proofs.Names.{width-back, operator-back, architecture-back, architecture-byte, mask-back, width-forth, operator-forth, architecture-forth, mask-forth}
@@ -276,22 +277,20 @@ module _ (bs : List ℕ) (bytes : AreBytes bs) where
       sym (d0 ∙ rw (number, count, d4, d8, d12, entries))
 
   pub read-written : (rs : RuleSet) → read bs ≡ some rs → InRange rs × (encode rs ≡ bs)
-  unfolding read
   read-written rs h =
-      let a = check-some (leb (length bs) (2 ^ 20) && leb 16 (length bs) && isAction (numberAt 4 bs 4) && isAction (numberAt 4 bs 8)) _ h in
-      let t3 = both-true _ (isAction (numberAt 4 bs 8)) (a .0) in
-      let t2 = both-true _ (isAction (numberAt 4 bs 4)) (t3 .0) in
-      let t1 = both-true (leb (length bs) (2 ^ 20)) (leb 16 (length bs)) (t2 .0) in
-      let room = leb-true 16 (length bs) (t1 .1) in
-      let w = then-some (architectureOf (numberAt 4 bs 0)) _ (a .1) in
-      let es = then-some (times (entryAt bs) (numberAt 4 bs 12) 16) _ (w .2) in
-      let end = check-some (eqb (es .0 .past) (length bs)) _ (es .2) in
-      let entries = times-forth encodeEntry EntryInRange bs (entryAt bs) entry-forth (numberAt 4 bs 12) 16 (es .0) (es .1) in
-      let last = eqb-true (es .0 .past) (length bs) (end .0) in
-      let whole = head-spelled (w .0) (es .0 .value) room (architecture-forth (numberAt 4 bs 0) (w .0) (w .1)) (entries .1)
-      (entries .0 .here ∙ rw (last, drop-length, append-nil)) in
-      rw (← some-same (end .1))
-      (record { mismatch = t2 .1; onMatch = t3 .1; entries = entries .0 .good; size = rw whole (leb-true (length bs) (2 ^ 20) (t1 .0)) }, whole)
+      let r = seen bs rs h in
+      let entries = times-forth encodeEntry EntryInRange bs (entryAt bs) entry-forth (numberAt 4 bs 12) 16 _ (r .entries) in
+      let whole = head-spelled (rs .architecture) (rs .entries) (r .long) (architecture-forth (numberAt 4 bs 0) (rs .architecture) (r .architecture))
+      (entries .1) (entries .0 .here ∙ rw (drop-length) (append-nil (joined encodeEntry (rs .entries)))) in
+      let same : encode rs ≡ bs = rw (← r .mismatch, ← r .onMatch) at whole in (
+        record {
+          mismatch = rw (r .mismatch) (r .mismatchKnown);
+          onMatch = rw (r .onMatch) (r .onMatchKnown);
+          entries = entries .0 .good;
+          size = rw same (r .short);
+        },
+        same,
+      )
 
 -- bytes are of the format exactly when they are what is written of a rule set in range
 pub formatted : RoundTrip
