@@ -119,25 +119,27 @@ fn put_head(out: &mut [u8], architecture: u32, mismatch: u32, on_match: u32)
     put_u32(out, 12, 0);
 }
 
+// What a refused start leaves: a state that no writer takes.
+fn not_started(code: u32) -> Writer
+    ensures { λ r. ⌜ r ≡ record { code = code; end = 0; entry = 0; rule = 0 } ⌝ }
+{
+    Writer {
+        code: code,
+        end: 0,
+        entry: 0,
+        rule: 0,
+    }
+}
+
 // Starts a set: nothing is listed in it yet.
 pub fn start(out: &mut [u8], architecture: u32, mismatch: u32, on_match: u32) -> Writer
     ensures { λ r. ⌜ Started architecture mismatch «on_match» (now (out .entry)) (now (out .exit)) r ⌝ }
 {
     if !head_good(architecture, mismatch, on_match) {
-        return Writer {
-            code: 1,
-            end: 0,
-            entry: 0,
-            rule: 0,
-        };
+        return not_started(1);
     }
     if out.len() < 16 {
-        return Writer {
-            code: 3,
-            end: 0,
-            entry: 0,
-            rule: 0,
-        };
+        return not_started(3);
     }
     put_head(out, architecture, mismatch, on_match);
     Writer {

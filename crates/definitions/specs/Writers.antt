@@ -42,7 +42,7 @@ stateFits w = leb 16 (w .end) && (leb (w .entry + 8) (w .end) && leb (w .rule + 
 --   2  out of order
 --   3  no room in the buffer
 --   4  the set would pass 1 MiB
---   5  the state does not fit the buffer
+--   5  the places in the state do not fit the set
 unfoldable pub codeFor : Bool → Bool → ℕ → ℕ → Writer → ℕ
 codeFor good ordered more size w =
     cond (not good) 1
