@@ -95,7 +95,7 @@ pub extern "C" fn callfilter_start(
 ) -> Writer
     ensures { λ r. ⌜ Started architecture mismatch «on_match» (now (out .entry)) (now (out .exit)) r ⌝ }
 {
-    builder::start(out, architecture, mismatch, on_match)
+    writers::start(out, architecture, mismatch, on_match)
 }
 
 // Lists a number, which matches whatever its arguments are until a rule is begun for it.
@@ -103,7 +103,7 @@ pub extern "C" fn callfilter_start(
 pub extern "C" fn callfilter_list(out: &mut [u8], writer: Writer, number: u32) -> Writer
     ensures { λ r. ⌜ Added (some (withEntry number)) true 8 (now (out .entry)) (now (out .exit)) writer r ⌝ }
 {
-    builder::list(out, writer, number)
+    writers::list(out, writer, number)
 }
 
 // Begins a rule for the number that was listed last.
@@ -111,7 +111,7 @@ pub extern "C" fn callfilter_list(out: &mut [u8], writer: Writer, number: u32) -
 pub extern "C" fn callfilter_begin_rule(out: &mut [u8], writer: Writer) -> Writer
     ensures { λ r. ⌜ Added (some withRule) (not (eqb (writer .entry) 0)) 4 (now (out .entry)) (now (out .exit)) writer r ⌝ }
 {
-    builder::begin_rule(out, writer)
+    writers::begin_rule(out, writer)
 }
 
 // Adds a condition to the rule that was begun last.
@@ -127,7 +127,7 @@ pub extern "C" fn callfilter_add_condition(
 ) -> Writer
     ensures { λ r. ⌜ Added (conditionPart index width operator value mask) (not (eqb (writer .rule) 0)) 24 (now (out .entry)) (now (out .exit)) writer r ⌝ }
 {
-    builder::add_condition(out, writer, index, width, operator, value, mask)
+    writers::add_condition(out, writer, index, width, operator, value, mask)
 }
 
 // Reads the head of a set.
@@ -135,7 +135,7 @@ pub extern "C" fn callfilter_add_condition(
 pub extern "C" fn callfilter_read_head(set: &[u8]) -> Head
     ensures { λ r. ⌜ r ≡ readers.headOf (now (set .entry)) ⌝ }
 {
-    builder::read_head(set)
+    readers::read_head(set)
 }
 
 // Reads the number that is listed next, once all rules of the last one are read.
@@ -143,7 +143,7 @@ pub extern "C" fn callfilter_read_head(set: &[u8]) -> Head
 pub extern "C" fn callfilter_next_entry(set: &[u8], cursor: Cursor) -> Listed
     ensures { λ r. ⌜ r ≡ readers.entryOf (now (set .entry)) cursor ⌝ }
 {
-    builder::next_entry(set, cursor)
+    readers::next_entry(set, cursor)
 }
 
 // Goes on to the next rule, once all conditions of the last one are read.
@@ -151,7 +151,7 @@ pub extern "C" fn callfilter_next_entry(set: &[u8], cursor: Cursor) -> Listed
 pub extern "C" fn callfilter_next_rule(set: &[u8], cursor: Cursor) -> Cursor
     ensures { λ r. ⌜ r ≡ readers.ruleOf (now (set .entry)) cursor ⌝ }
 {
-    builder::next_rule(set, cursor)
+    readers::next_rule(set, cursor)
 }
 
 // Reads the next condition of the open rule.
@@ -159,5 +159,5 @@ pub extern "C" fn callfilter_next_rule(set: &[u8], cursor: Cursor) -> Cursor
 pub extern "C" fn callfilter_next_condition(set: &[u8], cursor: Cursor) -> Compared
     ensures { λ r. ⌜ r ≡ readers.comparedOf (now (set .entry)) cursor ⌝ }
 {
-    builder::next_condition(set, cursor)
+    readers::next_condition(set, cursor)
 }

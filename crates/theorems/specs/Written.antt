@@ -1,5 +1,5 @@
--- The theorems of rule sets that are written and read part by part, as statements. Their proofs are in crates/builder/proofs, beside the
--- writers and readers: Made.antt and Back.antt.
+-- The theorems of rule sets that are written and read part by part, as statements. Their proofs stand beside the code: in
+-- crates/writers/proofs/Made.antt and crates/readers/proofs/Back.antt.
 use Prim.Native.Nat.{ℕ}
 use mathlib.Core.Path.{_≡_}
 use mathlib.Core.Bool.{Bool, true}

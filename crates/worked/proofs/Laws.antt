@@ -21,7 +21,7 @@ use Rattle.definitions.specs.Writers.{Added, Holds}
 use Rattle.definitions.specs.Readers.{headOf, atEntry, entryOf, ruleOf, comparedOf, Left}
 use Rattle.theorems.proofs.Forms.{length-condition, length-rule, length-entry}
 use Rattle.theorems.proofs.Answers.{compiles}
-use Rattle.builder.proofs.Back.{left-long, head-back, entry-back, rule-back, condition-back, all-read}
+use Rattle.readers.proofs.Back.{left-long, head-back, entry-back, rule-back, condition-back, all-read}
 use Rattle.worked.specs.Worked.{Wrote, Ahead, Walked}
 
 -- a no promises nothing

@@ -1,8 +1,0 @@
-pub mod Laws
-pub mod Codes
-pub mod Names
-pub mod Sets
-pub mod Writers
-pub mod Made
-pub mod Readers
-pub mod Back

@@ -1,0 +1,3 @@
+pub mod Names
+pub mod Readers
+pub mod Back

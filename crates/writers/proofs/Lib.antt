@@ -1,0 +1,6 @@
+pub mod Laws
+pub mod Codes
+pub mod Names
+pub mod Sets
+pub mod Writers
+pub mod Made

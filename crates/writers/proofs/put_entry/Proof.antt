@@ -1,0 +1,25 @@
+-- `put_entry` meets its contract: two numbers, one behind the other.
+use native.Mathlib.Omega.{arith}
+use Rattle.writers.proofs.Laws.{put-two}
+use borrow.Author.Needs.{needs}
+use Rattle.writers.proofs.put_entry.Statement.{statement}
+use Rattle.writers.proofs.put_entry.Tie as tie
+
+put-u32-requires : tie.Need-put-u32-requires
+put-u32-requires c κs = search needs
+
+add-put-u32 : tie.Need-add-put-u32
+add-put-u32 c = search needs
+
+put-u32-requires-2 : tie.Need-put-u32-requires-2
+put-u32-requires-2 c κs = search needs
+
+same-length : tie.Need-same-length
+same-length c = search needs
+
+returns : tie.Need-returns
+returns c = rw (c .before .before .put-u322 .ensures, c .before .before .before .before .before .before .put-u32 .ensures) (put-two _ _ _ _ (omega arith))
+
+pub put-entry-spec : {M : Type 1} → statement M
+put-entry-spec =
+    tie.close (tie.spec put-u32-requires add-put-u32 put-u32-requires-2 same-length returns)
