@@ -66,7 +66,7 @@ pub extern "C" fn callfilter_compile(set: &[u8], out: &mut [u8]) -> Answer
 pub extern "C" fn callfilter_accepts(filter: &[u8]) -> bool
     ensures { λ r. ⌜ r ≡ acceptsBytes (now (filter .entry)) ⌝ }
 {
-    machine::accepts(filter)
+    checks::accepts(filter)
 }
 
 // What a filter does with a call.

@@ -22,7 +22,7 @@ use Rattle.machine.specs.declared.Step.{Step}
 use Rattle.definitions.specs.declared.Outcome.{Outcome}
 use Rattle.definitions.specs.Outcome.{refused, ended}
 use Rattle.machine.specs.Run.{stateOf, Stepped}
-use Rattle.machine.proofs.Walk.{left-start, left-turn, left-end}
+use Rattle.checks.proofs.Walk.{left-start, left-turn, left-end}
 
 -- a product of two 32-bit numbers has 64 bits
 pub product : {a b : ℕ} → a < 2 ^ 32 → b < 2 ^ 32 → a * b < 2 ^ 64

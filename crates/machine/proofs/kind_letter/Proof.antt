@@ -4,7 +4,7 @@ use mathlib.Core.Path.{refl}
 use lib.ListN.{getD}
 use Rattle.definitions.specs.Machine.{unknown, codes, kindIn, kindOf}
 use Rattle.machine.specs.Codes.{kindLetter, aluNumbered, testNumbered, sourceNumbered, kindAs}
-use Rattle.machine.proofs.Codes.{entries, agree, kind-above}
+use Rattle.checks.proofs.Codes.{entries, agree, kind-above}
 use borrow.Author.Needs.{needs}
 use Rattle.machine.proofs.kind_letter.Statement.{statement}
 use Rattle.machine.proofs.kind_letter.Tie as tie

@@ -2,7 +2,7 @@
 use mathlib.Core.Path.{sym, _∙_}
 use borrow.Author.Tests.{eq-eqb, ne-eqb, not-true, not-false}
 use Rattle.definitions.specs.Outcome.{outcomeOf}
-use Rattle.machine.proofs.Walk.{accepts-short}
+use Rattle.checks.proofs.Walk.{accepts-short}
 use borrow.Author.Needs.{needs}
 use Rattle.machine.proofs.run.Statement.{statement}
 use Rattle.machine.proofs.run.Tie as tie
