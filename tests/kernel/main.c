@@ -2,6 +2,7 @@
 //
 //     compare programs SEED FIRST COUNT    random filters and calls, for callfilter_accepts and callfilter_run
 //     compare sets SEED FIRST              rule sets and calls from standard input, for callfilter_compile and callfilter_decide
+//     compare supervisor                   sets that hand calls to a supervisor
 
 #include "kernel.h"
 #include <stdio.h>
@@ -13,5 +14,6 @@ int main(int count, char **words) {
     uint64_t seed = count > 2 ? strtoull(words[2], NULL, 10) : 0, first = count > 3 ? strtoull(words[3], NULL, 10) : 0;
     if (count == 5 && strcmp(words[1], "programs") == 0) return !compare_programs(kernel_ready(), seed, first, strtoull(words[4], NULL, 10));
     if (count == 4 && strcmp(words[1], "sets") == 0) return !compare_sets(kernel_ready(), seed, first);
-    fail("usage: compare programs SEED FIRST COUNT, or compare sets SEED FIRST");
+    if (count == 2 && strcmp(words[1], "supervisor") == 0) return !compare_supervisor();
+    fail("usage: compare programs SEED FIRST COUNT, compare sets SEED FIRST, or compare supervisor");
 }

@@ -1,5 +1,6 @@
 #!/usr/bin/env python3
-"""Holds the proved functions to the kernel of this machine, by seccomp(2): random filters and calls, then compiled rule sets and calls.
+"""Holds the proved functions to the kernel of this machine, by seccomp(2): random filters and calls, then compiled rule sets and calls,
+then sets that hand calls to a supervisor.
 Where a filter cannot be installed or the program not be built, that is a failure: nothing else here knows the real kernel.
 
     run.py [--seed N] [--programs N] [--sets N]
@@ -48,6 +49,11 @@ def sets(compare, seed, first, count):
     return counts
 
 
+def supervisor(compare):
+    print("-- calls that are handed to a supervisor", flush=True)
+    return run([compare, "supervisor"])
+
+
 def main():
     parser = argparse.ArgumentParser()
     parser.add_argument("--seed", type=int, default=20240501)
@@ -68,7 +74,7 @@ def main():
     elif options.set is not None:
         results = [sets(compare, options.seed, options.set, 1)]
     else:
-        results = [programs(compare, options.seed, 0, options.programs), sets(compare, options.seed, 0, options.sets)]
+        results = [programs(compare, options.seed, 0, options.programs), sets(compare, options.seed, 0, options.sets), supervisor(compare)]
     passed, failed, skipped = map(sum, zip(*results))
     print(f"{passed} passed, {failed} failed" + (f", {skipped} skipped" if skipped else ""))
     return 1 if failed else 0

@@ -3,11 +3,31 @@
 use std::collections::BTreeMap;
 
 use crate::backend::{
-    Error, SeccompAction, SeccompCmpArgLen, SeccompCmpOp, SeccompCondition, SeccompFilter, SeccompRule, TargetArch,
+    BpfProgram, Error, SeccompAction, SeccompCmpArgLen, SeccompCmpOp, SeccompCondition, SeccompFilter, SeccompRule, TargetArch,
 };
 use crate::format::{self, Condition, RuleSet};
 
 pub type Rules = BTreeMap<i64, Vec<SeccompRule>>;
+
+// An action that seccompiler 0.5.0 does not have yet. It is asked with an errno in its place, and the returned words are put right
+// behind it: nothing else in a filter depends on an action.
+const USER_NOTIF: u32 = 0x7fc0_0000;
+const RETURN: u16 = 0x06;
+
+fn stands_in(set: &RuleSet) -> u32 {
+    let free = |errno: &u32| ![set.mismatch, set.on_match].contains(errno);
+    [0x0005_0001, 0x0005_0002, 0x0005_0003].into_iter().find(free).expect("a set has two actions")
+}
+
+fn asked(word: u32, set: &RuleSet) -> u32 {
+    if word == USER_NOTIF { stands_in(set) } else { word }
+}
+
+pub fn put_right(program: &mut BpfProgram, set: &RuleSet) {
+    for step in program.iter_mut().filter(|step| step.code == RETURN && step.k == stands_in(set)) {
+        step.k = USER_NOTIF;
+    }
+}
 
 fn action(word: u32) -> SeccompAction {
     let made = match word >> 16 {
@@ -48,5 +68,6 @@ pub fn condition(given: &Condition) -> Result<SeccompCondition, Error> {
 }
 
 pub fn filter_of(set: &RuleSet, rules: Rules) -> Result<SeccompFilter, Error> {
-    SeccompFilter::new(rules, action(set.mismatch), action(set.on_match), architecture(set.architecture))
+    let [mismatch, on_match] = [set.mismatch, set.on_match].map(|word| action(asked(word, set)));
+    SeccompFilter::new(rules, mismatch, on_match, architecture(set.architecture))
 }

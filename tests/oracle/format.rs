@@ -36,7 +36,7 @@ pub const NE: u8 = 6;
 pub fn is_action(word: u32) -> bool {
     match word >> 16 {
         0x0005 | 0x7ff0 => true,
-        0x8000 | 0x0000 | 0x0003 | 0x7ffc | 0x7fff => word & 0xffff == 0,
+        0x8000 | 0x0000 | 0x0003 | 0x7fc0 | 0x7ffc | 0x7fff => word & 0xffff == 0,
         _ => false,
     }
 }

@@ -13,7 +13,7 @@ use std::io::{self, BufReader, BufWriter, Write};
 use backend::{
     BpfProgram, Error, SeccompAction, SeccompCmpArgLen, SeccompCmpOp, SeccompCondition, SeccompFilter, SeccompRule, TargetArch,
 };
-use convert::{condition, filter_of, Rules};
+use convert::{condition, filter_of, put_right, Rules};
 use format::{next_bytes, next_word, read_set};
 
 // how often the real code was asked for each of its opinions, and how often it refused
@@ -89,7 +89,8 @@ fn answer(bytes: &[u8], room: u32, opinions: &mut Opinions) -> (u32, u32, BpfPro
 
     let filter = filter_of(&set, rules).expect("a filter that nothing is wrong with");
     match BpfProgram::try_from(filter) {
-        Ok(program) => {
+        Ok(mut program) => {
+            put_right(&mut program, &set);
             opinions.ask(LENGTH, program.len() >= 4096, false, bytes);
             let count = program.len() as u32;
             if u64::from(room) < 8 * u64::from(count) {

@@ -268,7 +268,7 @@ def actions():
 
 def unknown_words():
     """Next to known words of actions, architectures, widths and operators."""
-    near = {word + step for word in ACTIONS for step in (1, 0x8000, 0xffff, 0x10000, -0x10000, -1)} | {0x7fc00000, TOP, 0xc000003e}
+    near = {word + step for word in ACTIONS for step in (1, 0x8000, 0xffff, 0x10000, -0x10000, -1)} | {TOP, 0xc000003e}
     for word in sorted(word for word in near if 0 <= word <= TOP):
         yield struct.pack("<IIII", X86_64, word, ALLOW, 0), 64
         yield struct.pack("<IIII", X86_64, TRAP, word, 0), 64

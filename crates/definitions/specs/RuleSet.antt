@@ -48,9 +48,9 @@ unfoldable pub oneOf : List ℕ → ℕ → Bool
 oneOf [] w = false
 oneOf (x ∷ xs) w = eqb w x || oneOf xs w
 
--- kill process, kill thread, trap, log, allow: whole words
+-- kill process, kill thread, trap, user notif, log, allow: whole words
 abbrev pub plainActions : List ℕ
-plainActions = killProcess ∷ 0x00000000 ∷ 0x00030000 ∷ 0x7ffc0000 ∷ 0x7fff0000 ∷ []
+plainActions = killProcess ∷ 0x00000000 ∷ 0x00030000 ∷ 0x7fc00000 ∷ 0x7ffc0000 ∷ 0x7fff0000 ∷ []
 
 -- errno and trace: the upper half, with any number in the lower
 abbrev pub numberedActions : List ℕ

@@ -364,6 +364,9 @@ pub fn is_action(w: u32) -> bool
     if w == 0x00030000 {
         return true;
     }
+    if w == 0x7fc00000 {
+        return true;
+    }
     if w == 0x7ffc0000 {
         return true;
     }

@@ -21,6 +21,8 @@ pub enum Action {
     Trap,
     /// The call is not made, and fails with this error number.
     Errno(u16),
+    /// A supervisor that listens is asked; without one the call fails.
+    UserNotif,
     /// A tracer is told this number; without one the call fails.
     Trace(u16),
     /// The call is logged and made.
@@ -37,6 +39,7 @@ impl Action {
             Action::KillThread => 0x0000_0000,
             Action::Trap => 0x0003_0000,
             Action::Errno(number) => 0x0005_0000 | u32::from(number),
+            Action::UserNotif => 0x7fc0_0000,
             Action::Trace(number) => 0x7ff0_0000 | u32::from(number),
             Action::Log => 0x7ffc_0000,
             Action::Allow => 0x7fff_0000,
@@ -53,7 +56,7 @@ impl Action {
     /// ```
     pub fn from_word(word: u32) -> Option<Action> {
         let number = (word & 0xffff) as u16;
-        let plain = [Action::KillProcess, Action::KillThread, Action::Trap, Action::Log, Action::Allow];
+        let plain = [Action::KillProcess, Action::KillThread, Action::Trap, Action::UserNotif, Action::Log, Action::Allow];
         let all = plain.into_iter().chain([Action::Errno(number), Action::Trace(number)]);
         all.into_iter().find(|action| action.word() == word)
     }
@@ -66,6 +69,7 @@ impl fmt::Display for Action {
             Action::KillThread => to.pad("kill thread"),
             Action::Trap => to.pad("trap"),
             Action::Errno(number) => to.pad(&format!("errno {number}")),
+            Action::UserNotif => to.pad("user notif"),
             Action::Trace(number) => to.pad(&format!("trace {number}")),
             Action::Log => to.pad("log"),
             Action::Allow => to.pad("allow"),
@@ -84,6 +88,7 @@ mod tests {
             (Action::KillThread, 0x0000_0000, "kill thread"),
             (Action::Trap, 0x0003_0000, "trap"),
             (Action::Errno(13), 0x0005_000d, "errno 13"),
+            (Action::UserNotif, 0x7fc0_0000, "user notif"),
             (Action::Trace(0xffff), 0x7ff0_ffff, "trace 65535"),
             (Action::Log, 0x7ffc_0000, "log"),
             (Action::Allow, 0x7fff_0000, "allow"),
@@ -105,7 +110,7 @@ mod tests {
                 }
             }
         }
-        // five plain ones, and two with any number
-        assert_eq!(known, 5 + 2 * 4);
+        // six plain ones, and two with any number
+        assert_eq!(known, 6 + 2 * 4);
     }
 }

@@ -94,7 +94,7 @@ unruled-shrinks = (refl, refl)
 
 -- ---- action words
 
-actions : (all isAction (0x80000000 ∷ 0 ∷ 0x00030000 ∷ 0x00050000 ∷ 0x0005ffff ∷ 0x7ff00000 ∷ 0x7ff0ffff ∷ 0x7ffc0000 ∷ 0x7fff0000 ∷ []) ≡ true)
-    × (all (λ (w : ℕ). not (isAction w)) (1 ∷ 0x00030001 ∷ 0x00040000 ∷ 0x00060000 ∷ 0x7fc00000 ∷ 0x7ffc0001 ∷ 0x7fff0001 ∷ 0x80000001 ∷ []) ≡ true)
+actions : (all isAction (0x80000000 ∷ 0 ∷ 0x00030000 ∷ 0x00050000 ∷ 0x0005ffff ∷ 0x7ff00000 ∷ 0x7ff0ffff ∷ 0x7fc00000 ∷ 0x7ffc0000 ∷ 0x7fff0000 ∷ []) ≡ true)
+    × (all (λ (w : ℕ). not (isAction w)) (1 ∷ 0x00030001 ∷ 0x00040000 ∷ 0x00060000 ∷ 0x7fc00001 ∷ 0x7fc0ffff ∷ 0x7ffc0001 ∷ 0x7fff0001 ∷ 0x80000001 ∷ []) ≡ true)
 unfolding isAction oneOf
 actions = (refl, refl)
