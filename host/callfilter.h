@@ -16,7 +16,7 @@ extern "C" {
 
 /* ---- the numbers that stand for names */
 
-enum { CALLFILTER_X86_64 = 1, CALLFILTER_AARCH64 = 2 };
+enum { CALLFILTER_X86_64 = 1, CALLFILTER_AARCH64 = 2, CALLFILTER_RISCV64 = 3 };
 
 enum { CALLFILTER_DWORD = 4, CALLFILTER_QWORD = 8 };
 

@@ -50,7 +50,7 @@ static void refused(callfilter_writer after, callfilter_writer before, uint32_t 
 
 static void written(void) {
     memset(buffer, 0xa5, ROOM);
-    callfilter_writer writer = callfilter_start(buffer, ROOM, 3, CALLFILTER_ERRNO(1), CALLFILTER_ALLOW);
+    callfilter_writer writer = callfilter_start(buffer, ROOM, 4, CALLFILTER_ERRNO(1), CALLFILTER_ALLOW);
     CHECK(writer.code == CALLFILTER_PART_NOT_GOOD && untouched_from(0));
     writer = callfilter_start(buffer, 15, CALLFILTER_X86_64, CALLFILTER_ERRNO(1), CALLFILTER_ALLOW);
     CHECK(writer.code == CALLFILTER_NO_ROOM && untouched_from(0));

@@ -64,7 +64,7 @@ static void change_condition(uint8_t *condition, unsigned wrong) {
 static void change_set(uint8_t *set, unsigned wrong) {
     uint32_t mismatch = word_at(set + MISMATCH), match = word_at(set + MATCH);
     if (wrong == ACTIONS_SWAPPED) memcpy(set + MISMATCH, &match, 4), memcpy(set + MATCH, &mismatch, 4);
-    if (wrong == ARCHITECTURES_SWAPPED) *set = *set == CALLFILTER_X86_64 ? CALLFILTER_AARCH64 : CALLFILTER_X86_64;
+    if (wrong == ARCHITECTURES_SWAPPED) *set = *set == CALLFILTER_X86_64 ? CALLFILTER_RISCV64 : CALLFILTER_X86_64;
     uint8_t *at = set + HEAD;
     for (uint32_t entries = word_at(set + ENTRIES); entries > 0; entries--) {
         uint32_t rules = word_at(at + 4);
@@ -83,7 +83,9 @@ static bool always_taken(const question *q, unsigned wrong) {
 }
 
 static uint32_t architecture_word(uint8_t architecture) {
-    return architecture == CALLFILTER_X86_64 ? AUDIT_ARCH_X86_64 : AUDIT_ARCH_AARCH64;
+    static const uint32_t words[] = {
+        [CALLFILTER_X86_64] = AUDIT_ARCH_X86_64, [CALLFILTER_AARCH64] = AUDIT_ARCH_AARCH64, [CALLFILTER_RISCV64] = AUDIT_ARCH_RISCV64};
+    return words[architecture];
 }
 
 static callfilter_outcome decided(const question *q, const call *made, unsigned wrong) {

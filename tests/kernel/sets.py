@@ -9,7 +9,7 @@ import sys
 
 sys.path.insert(0, str(pathlib.Path(__file__).resolve().parent.parent / "vectors"))
 from draw import Draw  # noqa: E402
-from model import AARCH64, EQ, ERRNO, GE, GT, LE, LT, MASKED_EQ, TOO_MANY, X86_64, encode, length  # noqa: E402
+from model import AARCH64, EQ, ERRNO, GE, GT, LE, LT, MASKED_EQ, RISCV64, TOO_MANY, X86_64, encode, length  # noqa: E402
 
 CALLS = 64
 SAMPLES = 6
@@ -32,7 +32,7 @@ def rule_set(draw):
         else:
             made = draw.exact(draw.of((TOO_MANY - 1, draw.between(200, TOO_MANY - 1))))
         _, mismatch, match, entries = made
-        architecture = AARCH64 if draw.chance(25) else X86_64
+        architecture = draw.of((AARCH64, RISCV64)) if draw.chance(25) else X86_64
         if not draw.chance(5):
             mismatch, match = ERRNO + draw.below(2000), ERRNO + 2000 + draw.below(1999)
         made = architecture, mismatch, match, entries

@@ -38,7 +38,7 @@ def heads():
         yield bytes([byte])
         for place in range(16):
             yield plain[:place] + bytes([byte]) + plain[place + 1:]
-    architectures = (0, 1, 2, 3, 0x101, 0x1000001, 2 ** 32 - 1)
+    architectures = (0, 1, 2, 3, 4, 0x101, 0x1000001, 2 ** 32 - 1)
     words = (0, 1, 0x30000, 0x30001, 0x50000, 0x5ffff, 0x60000, 0x7fc00000, 0x7fc00001, 0x7ff00001, 0x7ffc0000, 0x7ffc8000, 0x7fff0000, 0x80000000, 0x80000001)
     tails = (bytes(4), bytes(4) + bytes(8), struct.pack("<I", 1) + bytes(8), struct.pack("<I", 2 ** 32 - 1) + bytes(8))
     for architecture in architectures:

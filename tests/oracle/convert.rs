@@ -48,6 +48,7 @@ fn architecture(number: u32) -> TargetArch {
     match number {
         1 => TargetArch::x86_64,
         2 => TargetArch::aarch64,
+        3 => TargetArch::riscv64,
         _ => unreachable!("the reader took an unknown architecture"),
     }
 }

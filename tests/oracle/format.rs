@@ -96,7 +96,7 @@ pub fn read_set(bytes: &[u8]) -> Option<RuleSet> {
     let mismatch = left.word()?;
     let on_match = left.word()?;
     let count = left.word()?;
-    if !(1..=2).contains(&architecture) || !is_action(mismatch) || !is_action(on_match) {
+    if !(1..=3).contains(&architecture) || !is_action(mismatch) || !is_action(on_match) {
         return None;
     }
     let entries = (0..count).map(|_| left.entry()).collect::<Option<_>>()?;

@@ -2,7 +2,7 @@
 unrelated conditions never does. The generator is our own, so that a seed gives the same sets under every version of Python."""
 import struct
 
-from model import AARCH64, ACTIONS, EQ, ERRNO, GE, GT, LE, LT, MASKED_EQ, TRACE, X86_64, length, rule_length
+from model import ACTIONS, ARCHITECTURES, EQ, ERRNO, GE, GT, LE, LT, MASKED_EQ, TRACE, length, rule_length
 
 EDGES = sorted({
     value for around in (0, 2 ** 31, 2 ** 32, 2 ** 63, 2 ** 64 - 1) for value in (around - 1, around, around + 1)
@@ -96,7 +96,7 @@ class Draw:
         mismatch, match = self.action(), self.action()
         while mismatch == match and not self.chance(equal_one_in):
             match = self.action()
-        return self.of((X86_64, AARCH64)), mismatch, match
+        return self.of(ARCHITECTURES), mismatch, match
 
     # ---- whole rule sets
 

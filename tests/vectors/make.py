@@ -14,7 +14,7 @@ import sys
 
 from draw import EDGES, Draw
 from model import (
-    AARCH64, ACTIONS, ALLOW, EQ, ERRNO, GE, GT, KILL_PROCESS, LE, LOG, LT, MASKED_EQ, NE, OPERATORS, TRACE, TRAP, WIDTHS, X86_64,
+    AARCH64, ACTIONS, ALLOW, ARCHITECTURES, EQ, ERRNO, GE, GT, KILL_PROCESS, LE, LOG, LT, MASKED_EQ, NE, OPERATORS, TRACE, TRAP, WIDTHS, X86_64,
     answer, decode, distances, encode, helper_sets, length, rule_length, size_of)
 
 ROOT = pathlib.Path(__file__).resolve().parent.parent.parent
@@ -67,8 +67,8 @@ def one_rule(rule, number=1):
 
 
 def worked():
-    yield fitting(WORKED_SET)
-    yield fitting((AARCH64, *WORKED_SET[1:]))
+    for architecture in ARCHITECTURES:
+        yield fitting((architecture, *WORKED_SET[1:]))
 
 
 def corner_cases():
@@ -253,7 +253,7 @@ def plain_list():
 
 
 def actions():
-    for architecture in (X86_64, AARCH64):
+    for architecture in ARCHITECTURES:
         for mismatch in ACTIONS:
             for match in ACTIONS:
                 yield fitting((architecture, mismatch, match, [(1, [[ONE]])]))

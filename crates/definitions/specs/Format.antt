@@ -19,13 +19,14 @@ use Rattle.definitions.specs.declared.Width.{Width}
 use Rattle.definitions.specs.declared.Width.the-variants.{Dword, Qword}
 use Rattle.definitions.specs.declared.Condition.{Condition}
 use Rattle.definitions.specs.Word.{bytesOf, numberAt}
-use Rattle.definitions.specs.RuleSet.{Architecture, x86-64, aarch64, Rule, Entry, RuleSet, isAction}
+use Rattle.definitions.specs.RuleSet.{Architecture, x86-64, aarch64, riscv64, Rule, Entry, RuleSet, isAction}
 
 -- ---- the numbers that stand for names
 
 unfoldable pub architectureNumber : Architecture → ℕ
 architectureNumber x86-64 = 1
 architectureNumber aarch64 = 2
+architectureNumber riscv64 = 3
 
 unfoldable pub widthNumber : Width → ℕ
 widthNumber Dword = 4
@@ -95,7 +96,7 @@ pub record InRange (rs : RuleSet) : Type 0 where
 -- ---- reading
 
 unfoldable pub architectureOf : ℕ → Option Architecture
-architectureOf n = cond (eqb n 1) (some x86-64) (cond (eqb n 2) (some aarch64) none)
+architectureOf n = cond (eqb n 1) (some x86-64) (cond (eqb n 2) (some aarch64) (cond (eqb n 3) (some riscv64) none))
 
 unfoldable pub widthOf : ℕ → Option Width
 widthOf n = cond (eqb n 4) (some Dword) (cond (eqb n 8) (some Qword) none)

@@ -17,11 +17,12 @@ use Rattle.definitions.specs.Machine.{Call}
 -- ---- what a rule set is
 
 pub data Architecture : Type 0 where
-  x86-64 aarch64 : Architecture
+  x86-64 aarch64 riscv64 : Architecture
 
 unfoldable pub architectureWord : Architecture → ℕ
 architectureWord x86-64 = 0xc000003e
 architectureWord aarch64 = 0xc00000b7
+architectureWord riscv64 = 0xc00000f3
 
 -- a rule: all its conditions must hold
 abbrev pub Rule : Type 0

@@ -9,7 +9,7 @@ use lib.Dec.{eqb, leb}
 use lib.ListN.{length}
 use borrow.Author.Tests.{eqb-true, leb-true}
 use Rattle.definitions.specs.Word.{numberAt}
-use Rattle.definitions.specs.RuleSet.{Architecture, x86-64, aarch64, Entry, RuleSet, isAction}
+use Rattle.definitions.specs.RuleSet.{Architecture, x86-64, aarch64, riscv64, Entry, RuleSet, isAction}
 use Rattle.definitions.specs.Format.{Read, architectureOf, times, ruleAt, entryAt, read}
 use Rattle.theorems.proofs.Tests.{check-some, then-some}
 use Rattle.theorems.proofs.Reading.{seen}
@@ -17,14 +17,16 @@ use Rattle.condition.proofs.Agree.{Reads}
 use Rattle.rule.proofs.Agree.{rules-agree}
 use Rattle.filter.specs.At.{namedArchitecture, entryHere, entryPast, entriesHere, entriesPast, setHere}
 
-architecture-by : (a b : Bool) (w : Architecture) → cond a (some x86-64) (cond b (some aarch64) none) ≡ some w → w ≡ cond a x86-64 aarch64
-architecture-by true b w h = cc
-architecture-by false true w h = cc
-architecture-by false false w h = cc
+architecture-by : (a b c : Bool) (w : Architecture) → cond a (some x86-64) (cond b (some aarch64) (cond c (some riscv64) none)) ≡ some w
+    → w ≡ cond a x86-64 (cond b aarch64 riscv64)
+architecture-by true b c w h = cc
+architecture-by false true c w h = cc
+architecture-by false false true w h = cc
+architecture-by false false false w h = cc
 
 architecture-agrees : (n : ℕ) (w : Architecture) → architectureOf n ≡ some w → w ≡ namedArchitecture n
 unfolding architectureOf namedArchitecture
-architecture-agrees n w h = architecture-by (eqb n 1) (eqb n 2) w h
+architecture-agrees n w h = architecture-by (eqb n 1) (eqb n 2) (eqb n 3) w h
 
 pub entry-agrees : (s : List ℕ) (at : ℕ) {r : Read Entry} → entryAt s at ≡ some r → Reads r (entryHere s at) (entryPast s at)
 unfolding entryAt entryHere entryPast

@@ -5,11 +5,11 @@ use mathlib.Core.Bool.{Bool, cond, not, _&&_}
 use mathlib.Core.List.{List, [], _∷_}
 use lib.Dec.{eqb}
 use Rattle.definitions.specs.Word.{numberAt}
-use Rattle.definitions.specs.RuleSet.{Architecture, x86-64, aarch64, Entry, RuleSet}
+use Rattle.definitions.specs.RuleSet.{Architecture, x86-64, aarch64, riscv64, Entry, RuleSet}
 use Rattle.rule.specs.At.{rulesHere, rulesPast}
 
 unfoldable pub namedArchitecture : ℕ → Architecture
-namedArchitecture n = cond (eqb n 1) x86-64 aarch64
+namedArchitecture n = cond (eqb n 1) x86-64 (cond (eqb n 2) aarch64 riscv64)
 
 -- an entry at a place, and where it ends
 unfoldable pub entryHere : List ℕ → ℕ → Entry

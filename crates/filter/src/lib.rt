@@ -25,7 +25,10 @@ pub fn architecture_word(a: u32) -> u32
     if a == 1 {
         return 0xc000003e;
     }
-    0xc00000b7
+    if a == 2 {
+        return 0xc00000b7;
+    }
+    0xc00000f3
 }
 
 // Writes the test of the architecture, which stands at 4 in the call data. A call of another one is killed, since its numbers stand

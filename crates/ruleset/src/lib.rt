@@ -62,7 +62,10 @@ pub fn architecture_known(architecture: u32) -> bool
     if architecture == 1 {
         return true;
     }
-    architecture == 2
+    if architecture == 2 {
+        return true;
+    }
+    architecture == 3
 }
 
 // Whether a condition of the format stands at a place.

@@ -11,7 +11,7 @@ use Rattle.definitions.specs.declared.Operator.{Operator}
 use Rattle.definitions.specs.declared.Operator.the-variants.{Eq, Ge, Gt, Le, Lt, MaskedEq, Ne}
 use Rattle.definitions.specs.declared.Width.{Width}
 use Rattle.definitions.specs.declared.Width.the-variants.{Dword, Qword}
-use Rattle.definitions.specs.RuleSet.{Architecture, x86-64, aarch64}
+use Rattle.definitions.specs.RuleSet.{Architecture, x86-64, aarch64, riscv64}
 use Rattle.definitions.specs.Format.{architectureNumber, widthNumber, operatorNumber, MaskInRange, architectureOf, widthOf, operatorOf, maskTaken}
 use Rattle.definitions.specs.Format.{isThere, then, check}
 use Rattle.theorems.proofs.Tests.{some-same}
@@ -37,11 +37,13 @@ pub architecture-back : (a : Architecture) → architectureOf (architectureNumbe
 unfolding architectureOf architectureNumber
 architecture-back x86-64 = refl
 architecture-back aarch64 = refl
+architecture-back riscv64 = refl
 
 pub architecture-byte : (a : Architecture) → architectureNumber a < 256 ^ 4
 unfolding architectureNumber
 architecture-byte x86-64 = omega arith
 architecture-byte aarch64 = omega arith
+architecture-byte riscv64 = omega arith
 
 -- a mask in range is taken, and has room
 pub mask-back : (o : Operator) (m : ℕ) → MaskInRange o m → (maskTaken o m ≡ true) × (m < 256 ^ 8)
@@ -80,7 +82,8 @@ operator-forth n o =
 
 pub architecture-forth : (n : ℕ) (a : Architecture) → architectureOf n ≡ some a → architectureNumber a ≡ n
 unfolding architectureOf architectureNumber
-architecture-forth n a = pick architectureNumber n 1 x86-64 refl (pick architectureNumber n 2 aarch64 refl none-some)
+architecture-forth n a =
+    pick architectureNumber n 1 x86-64 refl (pick architectureNumber n 2 aarch64 refl (pick architectureNumber n 3 riscv64 refl none-some))
 
 pub mask-forth : (o : Operator) (m : ℕ) → m < 2 ^ 64 → maskTaken o m ≡ true → MaskInRange o m
 unfolding maskTaken
@@ -94,14 +97,15 @@ mask-forth Ne m s h = eqb-true m 0 h
 
 -- ---- which numbers stand for a name: the tests of the code
 
-pub architecture-there : (n : ℕ) → isThere (architectureOf n) ≡ (eqb n 1 || eqb n 2)
+pub architecture-there : (n : ℕ) → isThere (architectureOf n) ≡ (eqb n 1 || (eqb n 2 || eqb n 3))
 unfolding architectureOf
-architecture-there n = go (eqb n 1) (eqb n 2)
+architecture-there n = go (eqb n 1) (eqb n 2) (eqb n 3)
   where
-    go : (a b : Bool) → isThere (cond a (some x86-64) (cond b (some aarch64) none)) ≡ (a || b)
-    go true b = refl
-    go false true = refl
-    go false false = refl
+    go : (a b c : Bool) → isThere (cond a (some x86-64) (cond b (some aarch64) (cond c (some riscv64) none))) ≡ (a || (b || c))
+    go true b c = refl
+    go false true c = refl
+    go false false true = refl
+    go false false false = refl
 
 pub width-there : (n : ℕ) → isThere (widthOf n) ≡ (eqb n 4 || eqb n 8)
 unfolding widthOf

@@ -16,7 +16,7 @@ use Rattle.definitions.specs.declared.Width.the-variants.{Dword, Qword}
 use Rattle.definitions.specs.declared.Condition.{Condition}
 use Rattle.definitions.specs.Machine.{Kind, ldAbs, ldLen, ldImm, ldMem, ldxLen, ldxImm, ldxMem, st, stx, tax, txa, neg, ja, retK, retA, unknown, alu, jump, codes, kindIn, kindOf}
 use Rattle.definitions.specs.Kernel.{constantTaken, operandTaken, takenAs, eachTaken, Effect, plain, reads, writes, jumps, branches, leaves, effectAs, effectOf, isReturn, endsInReturn, Words, noWord, everyWord, scratchNext, scratchTaken, accepts}
-use Rattle.definitions.specs.RuleSet.{Architecture, x86-64, aarch64, architectureWord, Rule, Entry, RuleSet, killProcess, oneOf, plainActions, numberedActions, isAction}
+use Rattle.definitions.specs.RuleSet.{Architecture, x86-64, aarch64, riscv64, architectureWord, Rule, Entry, RuleSet, killProcess, oneOf, plainActions, numberedActions, isAction}
 use Rattle.definitions.specs.Format.{Each, MaskInRange, ConditionInRange, EntryInRange, InRange}
 use Rattle.definitions.specs.Answer.{indicesTaken}
 use Rattle.definitions.specs.Emitted.{jumpBy, ifEqual, load, return, reach, highTests, lowTests, highPart, lowPart, conditionCode, helpers, near, stepCode, stepDistance, conditionsCode, distance, ruleCode, rulesCode, bodyCode, entryCode, entriesCode, numbersCode, emitted}
@@ -296,6 +296,7 @@ architecture-small : (a : Architecture) → architectureWord a < 2 ^ 32
 unfolding architectureWord
 architecture-small x86-64 = omega arith
 architecture-small aarch64 = omega arith
+architecture-small riscv64 = omega arith
 
 pub emitted-sound : (rs : RuleSet) → InRange rs → indicesTaken rs ≡ true → Sound 0 (emitted rs)
 unfolding emitted Shaped LandsAs kindOf kindIn codes

@@ -14,7 +14,7 @@ use crate::Error;
 /// assert_eq!("X86_64".parse(), Ok(Architecture::X86_64));
 /// assert_eq!(Architecture::Aarch64.to_string(), "aarch64");
 /// let error = "pdp11".parse::<Architecture>().unwrap_err();
-/// assert_eq!(error.to_string(), "there is no architecture \"pdp11\" here: rule sets are for x86_64 or aarch64");
+/// assert_eq!(error.to_string(), "there is no architecture \"pdp11\" here: rule sets are for x86_64 or aarch64 or riscv64");
 /// ```
 ///
 /// One that is not known cannot be written:
@@ -29,17 +29,20 @@ pub enum Architecture {
     X86_64,
     /// aarch64
     Aarch64,
+    /// riscv64
+    Riscv64,
 }
 
 impl Architecture {
     /// Every architecture.
-    pub const ALL: [Architecture; 2] = [Architecture::X86_64, Architecture::Aarch64];
+    pub const ALL: [Architecture; 3] = [Architecture::X86_64, Architecture::Aarch64, Architecture::Riscv64];
 
     /// The name, in small letters.
     pub fn name(self) -> &'static str {
         match self {
             Architecture::X86_64 => "x86_64",
             Architecture::Aarch64 => "aarch64",
+            Architecture::Riscv64 => "riscv64",
         }
     }
 
@@ -48,6 +51,7 @@ impl Architecture {
         match self {
             Architecture::X86_64 => 0xc000_003e,
             Architecture::Aarch64 => 0xc000_00b7,
+            Architecture::Riscv64 => 0xc000_00f3,
         }
     }
 
@@ -56,6 +60,7 @@ impl Architecture {
         match self {
             Architecture::X86_64 => 1,
             Architecture::Aarch64 => 2,
+            Architecture::Riscv64 => 3,
         }
     }
 
@@ -91,7 +96,7 @@ mod tests {
             }
             assert_eq!(Architecture::from_number(known.number()), Some(known));
         }
-        for name in ["", " x86_64", "x86_64 ", "x86-64", "x86", "aarch6\u{2074}"] {
+        for name in ["", " x86_64", "x86_64 ", "x86-64", "x86", "riscv", "aarch6\u{2074}"] {
             assert_eq!(name.parse::<Architecture>(), Err(Error::UnknownArchitecture(name.to_owned())));
         }
     }

@@ -195,7 +195,7 @@ fn errors_are_told_as_errors() {
         Ok(name.parse::<Architecture>()?)
     }
     assert_eq!(asked("AARCH64").unwrap(), Architecture::Aarch64);
-    assert!(asked("").unwrap_err().to_string().contains("x86_64 or aarch64"));
+    assert!(asked("").unwrap_err().to_string().contains("x86_64 or aarch64 or riscv64"));
     let told = [
         (Error::NotOfTheFormat, "these bytes are no rule set"),
         (Error::NotAscending { number: 2, behind: 3 }, "numbers must be strictly ascending"),

@@ -60,13 +60,15 @@ table =
     row (listing (errno 1) []) 32 0 4
     ∷ row (listing (errno 1) (plain 0 ∷ [])) 80 0 10
     ∷ row (listing (errno 1) condition) 120 0 15
+    ∷ row (put (listing (errno 1) []) 0 2) 32 0 4
+    ∷ row (put (listing (errno 1) []) 0 3) 32 0 4
     -- 1: cut short, a byte left over, an unknown architecture, action, width or operator, a byte that is not zero where zero is due,
     -- a mask without masked eq, a count beyond the end
     ∷ row [] 32 1 0
     ∷ row (take 15 (listing (errno 1) [])) 32 1 0
     ∷ row (listing (errno 1) [] ++ (0 ∷ [])) 32 1 0
     ∷ row (put (listing (errno 1) []) 0 0) 32 1 0
-    ∷ row (put (listing (errno 1) []) 0 3) 32 1 0
+    ∷ row (put (listing (errno 1) []) 0 4) 32 1 0
     ∷ row (put (listing (errno 1) []) 1 1) 32 1 0
     ∷ row (listing 1 []) 32 1 0
     ∷ row (put (listing (errno 1) []) 8 1) 32 1 0

@@ -13,7 +13,7 @@ use Rattle.definitions.specs.declared.Width.{Width}
 use Rattle.definitions.specs.declared.Width.the-variants.{Dword, Qword}
 use Rattle.definitions.specs.declared.Condition.{Condition}
 use Rattle.definitions.specs.Machine.{Call, Result, returns, stuck, words, fetch, codes, kindIn, kindOf, intoA, compute, testHolds, stepAs, step, run, visits, runs, steps}
-use Rattle.definitions.specs.RuleSet.{Architecture, x86-64, aarch64, architectureWord, Rule, Entry, RuleSet, test, holds, allHold, anyHolds, matches, listed, meaning}
+use Rattle.definitions.specs.RuleSet.{Architecture, x86-64, aarch64, riscv64, architectureWord, Rule, Entry, RuleSet, test, holds, allHold, anyHolds, matches, listed, meaning}
 use Rattle.definitions.specs.Answer.{all}
 use Rattle.definitions.specs.Emitted.{load, maskBy, jumpBy, ifEqual, ifGreater, ifAtLeast, return, highTests, lowTests, highPart, lowPart, conditionCode, helpers, near, stepCode, stepDistance, conditionsCode, distance, ruleCode, rulesCode, bodyCode, entryCode, entriesCode, numbersCode, emitted}
 use Rattle.definitions.proofs.Examples.RuleSet.{compared, allow, errno, call}
@@ -144,10 +144,13 @@ wrongs-differ = refl
 
 -- ---- the smallest sets
 
-nothing-listed : emitted (record { architecture = aarch64; mismatch = allow; onMatch = errno 1; entries = [] })
-    ≡ load 4 ∷ ifEqual 0xc00000b7 1 0 ∷ return 0x80000000 ∷ return allow ∷ []
+abbrev Nothing : Architecture → ℕ → Type 0
+Nothing a w = emitted (record { architecture = a; mismatch = allow; onMatch = errno 1; entries = [] })
+    ≡ load 4 ∷ ifEqual w 1 0 ∷ return 0x80000000 ∷ return allow ∷ []
+
+nothing-listed : Nothing x86-64 0xc000003e × Nothing aarch64 0xc00000b7 × Nothing riscv64 0xc00000f3
 unfolding emitted numbersCode architectureWord
-nothing-listed = refl
+nothing-listed = (refl, refl, refl)
 
 -- the value is cut by the mask
 masked-value : conditionCode (compared MaskedEq Dword 0 36 4) 1 ≡ load 16 ∷ maskBy 4 ∷ ifEqual 4 0 1 ∷ []
