@@ -32,7 +32,7 @@ extern "C" {
     fn callfilter_compile(set: *const u8, set_len: usize, out: *mut u8, out_len: usize) -> Answer;
 }
 
-const LONGEST_FILTER: usize = 8 * 4095;
+const LONGEST_FILTER: usize = 8 * 4096;
 const TIME_FOR_A_SET: Duration = Duration::from_millis(1500);
 const LIMIT: f64 = 5e6;
 const AUDIT_ARCH_X86_64: u32 = 0xc000_003e;

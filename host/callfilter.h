@@ -44,7 +44,7 @@ enum {
 
 enum {
     CALLFILTER_LONGEST_SET = 1048576, /* a longer set is not of the format */
-    CALLFILTER_LONGEST_FILTER = 32760, /* 4,095 instructions: into a buffer of this size every set that can be is compiled */
+    CALLFILTER_LONGEST_FILTER = 32768, /* 4,096 instructions: into a buffer of this size every set that can be is compiled */
     CALLFILTER_CALL_SIZE = 64 /* struct seccomp_data of seccomp(2): number, architecture word, instruction pointer, six arguments */
 };
 
@@ -57,7 +57,7 @@ enum {
     CALLFILTER_EQUAL_ACTIONS = 3,
     CALLFILTER_EMPTY_RULE = 4, /* a rule has at least one condition; a number that always matches has no rules */
     CALLFILTER_INDEX_ABOVE_FIVE = 5,
-    CALLFILTER_TOO_MANY_INSTRUCTIONS = 6, /* 4,096 or more */
+    CALLFILTER_TOO_MANY_INSTRUCTIONS = 6, /* 4,097 or more: the kernel takes 4,096 */
     CALLFILTER_BUFFER_TOO_SHORT = 7
 };
 

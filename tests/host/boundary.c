@@ -164,7 +164,9 @@ static void limits(void) {
     callfilter_writer writer = plain_calls(131070);
     CHECK(writer.code == CALLFILTER_WRITTEN && writer.end == CALLFILTER_LONGEST_SET);
     CHECK(callfilter_list(long_set, sizeof long_set, writer, 131070).code == CALLFILTER_SET_TOO_LONG);
-    callfilter_answer answer = callfilter_compile(long_set, plain_calls(818).end, filter, sizeof filter);
+    writer = callfilter_begin_rule(long_set, sizeof long_set, plain_calls(817));
+    writer = callfilter_add_condition(long_set, sizeof long_set, writer, 0, CALLFILTER_QWORD, CALLFILTER_MASKED_EQ, 1, 1);
+    callfilter_answer answer = callfilter_compile(long_set, writer.end, filter, sizeof filter);
     CHECK(answer.code == CALLFILTER_COMPILED && 8 * answer.count == CALLFILTER_LONGEST_FILTER);
     answer = callfilter_compile(long_set, plain_calls(819).end, filter, sizeof filter);
     CHECK(answer.code == CALLFILTER_TOO_MANY_INSTRUCTIONS && answer.count == 4100);

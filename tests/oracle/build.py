@@ -2,7 +2,9 @@
 """Builds the oracle (the real compiler of seccompiler 0.5.0 behind our main.rs) and the judge, and runs them on frames of bytes.
 
 seccompiler's source is lent: it is looked for in ../shared/docs/src, or where CALLFILTER_SHARED says, copied unchanged into target/ and
-never made part of this repository. Exit status 3 says that it, or rustc, is not there."""
+never made part of this repository. Since it refuses filters of 4,096 instructions, which we compile, there is a second oracle, of a copy
+in which that one number is raised: it is asked where the first refuses for 4,096. Exit status 3 says that the source, or rustc, is not
+there."""
 import hashlib
 import os
 import pathlib
@@ -15,6 +17,7 @@ HERE = pathlib.Path(__file__).resolve().parent
 ROOT = HERE.parent.parent
 TARGET = ROOT / "target" / "oracle"
 BACKEND = ("bpf", "condition", "filter", "mod", "rule")
+LIMIT, RAISED_LIMIT = (f"pub const BPF_MAX_LEN: usize = {limit};".encode() for limit in (4096, 4097))
 MISSING = 3
 
 
@@ -54,23 +57,30 @@ def need_rustc():
     TARGET.mkdir(parents=True, exist_ok=True)
 
 
-def build_oracle():
+def build_oracle(raised=False):
     source = lent_source()
     need_rustc()
-    lent = {source / f"src--backend--{name}.rs.txt": f"backend/{name}.rs" for name in BACKEND}
-    ours = {HERE / name: name for name in ("libc.rs", "format.rs", "convert.rs", "main.rs")}
-    done, stamp, digest = fresh("oracle", [HERE / "build.py", *lent, *ours])
+    name = "raised" if raised else "oracle"
+    lent = {source / f"src--backend--{part}.rs.txt": f"backend/{part}.rs" for part in BACKEND}
+    ours = {HERE / part: part for part in ("libc.rs", "format.rs", "convert.rs", "main.rs")}
+    done, stamp, digest = fresh(name, [HERE / "build.py", *lent, *ours])
     if not done:
-        for path, name in {**lent, **ours}.items():
-            place = TARGET / "src" / name
+        folder = TARGET / ("raised-src" if raised else "src")
+        for path, part in {**lent, **ours}.items():
+            place = folder / part
             place.parent.mkdir(parents=True, exist_ok=True)
-            place.write_bytes(path.read_bytes())
+            text = path.read_bytes()
+            if raised and part == "backend/bpf.rs":
+                assert text.count(LIMIT) == 1, "seccompiler's limit is not where it was"
+                text = text.replace(LIMIT, RAISED_LIMIT)
+            place.write_bytes(text)
         library = TARGET / "liblibc.rlib"
-        rustc("--crate-type", "rlib", "--crate-name", "libc", TARGET / "src" / "libc.rs", "-o", library)
+        rustc("--crate-type", "rlib", "--crate-name", "libc", folder / "libc.rs", "-o", library)
         # distances are 8-bit numbers in seccompiler: one that does not fit must stop the oracle, not wrap around
-        rustc("-C", "overflow-checks=on", "--extern", f"libc={library}", TARGET / "src" / "main.rs", "-o", TARGET / "oracle")
+        limit = ["--cfg", "raised"] if raised else []
+        rustc(*limit, "-C", "overflow-checks=on", "--extern", f"libc={library}", folder / "main.rs", "-o", TARGET / name)
         stamp.write_text(digest)
-    return TARGET / "oracle"
+    return TARGET / name
 
 
 def build_judge():
@@ -110,6 +120,18 @@ def ask(program, frames, seconds=600):
     if not trouble and (len(answers) < len(frames) or at < len(output)):
         trouble = f"gave {len(answers)} answers to {len(frames)} frames, and {len(output) - at} bytes more"
     return answers, trouble
+
+
+def ask_oracle(frames):
+    """The real compiler's answers; where it refuses for 4,096 instructions, those of the copy with its limit raised, and how many."""
+    answers, trouble = ask(build_oracle(), frames)
+    places = [place for place, answer in enumerate(answers) if answer[:2] == (6, 4096)]
+    more, more_trouble = ask(build_oracle(raised=True), [frames[place] for place in places])
+    for place, answer in zip(places, more):
+        answers[place] = answer
+    if trouble or more_trouble:
+        raise Broken(f"the oracle {trouble or more_trouble}")
+    return answers, len(places)
 
 
 def judge(program, frames, calls, seed):

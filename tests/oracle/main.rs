@@ -29,6 +29,9 @@ const EMPTY: usize = 1;
 const INDEX: usize = 2;
 const LENGTH: usize = 3;
 
+// the number of instructions from which on filters are refused: seccompiler's own, or that of the copy with its limit raised
+const REFUSED_FROM: usize = if cfg!(raised) { 4097 } else { 4096 };
+
 impl Opinions {
     // a disagreement means that this program or the description is wrong, and then no answer of it is worth anything
     fn ask(&mut self, which: usize, expected: bool, refused: bool, set: &[u8]) {
@@ -91,7 +94,7 @@ fn answer(bytes: &[u8], room: u32, opinions: &mut Opinions) -> (u32, u32, BpfPro
     match BpfProgram::try_from(filter) {
         Ok(mut program) => {
             put_right(&mut program, &set);
-            opinions.ask(LENGTH, program.len() >= 4096, false, bytes);
+            opinions.ask(LENGTH, program.len() >= REFUSED_FROM, false, bytes);
             let count = program.len() as u32;
             if u64::from(room) < 8 * u64::from(count) {
                 (7, count, vec![])
@@ -100,7 +103,7 @@ fn answer(bytes: &[u8], room: u32, opinions: &mut Opinions) -> (u32, u32, BpfPro
             }
         }
         Err(Error::FilterTooLarge(count)) => {
-            opinions.ask(LENGTH, count >= 4096, true, bytes);
+            opinions.ask(LENGTH, count >= REFUSED_FROM, true, bytes);
             (6, count as u32, vec![])
         }
         Err(other) => panic!("an error that compiling does not have: {other:?}"),

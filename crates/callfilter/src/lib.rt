@@ -39,7 +39,7 @@ fn verdict(set: &[u8], room: usize) -> Answer
     }
     let size = found.count;
     let count = size as u32;
-    if 4096 <= size {
+    if 4097 <= size {
         return give(6, count);
     }
     if room < 8 * size {

@@ -47,9 +47,9 @@ rulesFilled rs = everyRule hasConditions rs
 abbrev pub indicesTaken : RuleSet → Bool
 indicesTaken rs = everyRule (all indexTaken) rs
 
--- seccompiler refuses a filter of this many instructions, and more
+-- the kernel takes 4,096 instructions (BPF_MAXINSNS); a filter of this many, or more, is refused
 abbrev pub tooMany : ℕ
-tooMany = 4096
+tooMany = 4097
 
 abbrev pub answer : ℕ → ℕ → Answer
 answer code count = record { code = code; count = count }

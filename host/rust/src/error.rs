@@ -62,7 +62,7 @@ impl fmt::Display for Error {
             }
             Error::IndexAboveFive(index) => write!(to, "there is no argument {index}: a call has the arguments 0 to 5"),
             Error::TooManyInstructions(count) => {
-                write!(to, "the filter would have {count} instructions, and at most 4095 are compiled: list fewer calls or conditions")
+                write!(to, "the filter would have {count} instructions, and at most 4096 are compiled: list fewer calls or conditions")
             }
             Error::SetTooLong => write!(to, "the rule set would have more than 1 MiB as bytes: list fewer calls or conditions"),
             Error::NotTaken => write!(

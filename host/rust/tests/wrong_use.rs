@@ -105,6 +105,12 @@ fn a_filter_that_is_too_long_is_counted() {
         set.call(number);
     }
     assert_eq!(set.compile().unwrap().len(), 4095);
+    let mut longest = plain();
+    for number in 0..816 {
+        longest.call(number);
+    }
+    longest.call(816).rule(&[Condition::new(0, Width::Qword, Operator::MaskedEq(1), 1).unwrap()]);
+    assert_eq!(longest.compile().unwrap().len(), 4096);
     set.call(818);
     assert_eq!(set.compile(), Err(Error::TooManyInstructions(4100)));
     // it has a meaning and a byte form all the same
@@ -200,7 +206,7 @@ fn errors_are_told_as_errors() {
         (Error::NotOfTheFormat, "these bytes are no rule set"),
         (Error::NotAscending { number: 2, behind: 3 }, "numbers must be strictly ascending"),
         (Error::EqualActions(Action::Log), "the action is log whether a call matches or not"),
-        (Error::TooManyInstructions(4100), "the filter would have 4100 instructions, and at most 4095 are compiled"),
+        (Error::TooManyInstructions(4100), "the filter would have 4100 instructions, and at most 4096 are compiled"),
         (Error::AlwaysAndByRules(5), "call 5 is listed without rules, to match always, and once more with rules"),
         (Error::SetTooLong, "more than 1 MiB"),
         (Error::NotTaken, "the kernel would not take these bytes as a filter"),

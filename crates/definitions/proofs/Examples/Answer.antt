@@ -109,7 +109,7 @@ table-holds = refl
 abbrev smallest : RuleSet
 smallest = record { architecture = x86-64; mismatch = errno 1; onMatch = allow; entries = [] }
 
-limit : (answerWith 4095 smallest 40000 ≡ record { code = 0; count = 4095 }) × (answerWith 4096 smallest 40000 ≡ record { code = 6; count = 4096 })
-    × (answerWith 4096 smallest 0 ≡ record { code = 6; count = 4096 }) × (answerWith 4095 smallest 32759 ≡ record { code = 7; count = 4095 })
+limit : (answerWith 4096 smallest 40000 ≡ record { code = 0; count = 4096 }) × (answerWith 4097 smallest 40000 ≡ record { code = 6; count = 4097 })
+    × (answerWith 4097 smallest 0 ≡ record { code = 6; count = 4097 }) × (answerWith 4096 smallest 32767 ≡ record { code = 7; count = 4096 })
 unfolding answerWith refusal ascending
 limit = (refl, refl, refl, refl)
