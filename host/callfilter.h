@@ -58,7 +58,8 @@ enum {
     CALLFILTER_EMPTY_RULE = 4, /* a rule has at least one condition; a number that always matches has no rules */
     CALLFILTER_INDEX_ABOVE_FIVE = 5,
     CALLFILTER_TOO_MANY_INSTRUCTIONS = 6, /* 4,097 or more: the kernel takes 4,096 */
-    CALLFILTER_BUFFER_TOO_SHORT = 7
+    CALLFILTER_BUFFER_TOO_SHORT = 7,
+    CALLFILTER_MORE_THAN_32_BITS = 8 /* the value or the mask of a dword condition, which looks at 32 */
 };
 
 /* count: with codes 0, 6 and 7 how many instructions of eight bytes the filter has, else 0 */
@@ -152,7 +153,7 @@ callfilter_compared callfilter_next_condition(const uint8_t *set, size_t set_len
 
 /* ---- asking, without a kernel */
 
-/* of decide, the codes 1 to 5 are those of compiling */
+/* of decide, the codes 1 to 5 and 8 are those of compiling */
 enum {
     CALLFILTER_RETURNED = 0,
     CALLFILTER_NOT_TAKEN = 1, /* of run: the kernel would not take the filter */
@@ -173,7 +174,7 @@ bool callfilter_accepts(const uint8_t *filter, size_t filter_len);
 callfilter_outcome callfilter_run(const uint8_t *filter, size_t filter_len, const uint8_t *call, size_t call_len);
 
 /* What the set means for a call, straight from the bytes of both: where the set compiles, its filter returns this action for the call.
- * A set of which compiling answers 1 to 5 gets that number; one whose filter is too long has its meaning all the same. */
+ * A set in which compiling refuses something (1 to 5, 8) gets that number; one whose filter is too long has its meaning all the same. */
 callfilter_outcome callfilter_decide(const uint8_t *set, size_t set_len, const uint8_t *call, size_t call_len);
 
 #ifdef __cplusplus

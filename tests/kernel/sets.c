@@ -36,7 +36,7 @@ enum { LIST(ROW_NAME) MEANINGS };
 #define ROW_TEXT(name, text) text,
 static const char *const meaning_names[MEANINGS] = {LIST(ROW_TEXT)};
 
-enum { MISMATCH = 4, MATCH = 8, ENTRIES = 12, HEAD = 16, MASK = 16, CONDITION = 24 };  // places, and the sizes of head and condition
+enum { MISMATCH = 4, MATCH = 8, ENTRIES = 12, HEAD = 16, VALUE = 8, MASK = 16, CONDITION = 24 };  // places, and the sizes of head and condition
 
 static uint32_t word_at(const uint8_t *at) {
     uint32_t word;
@@ -57,7 +57,7 @@ static void change_condition(uint8_t *condition, unsigned wrong) {
     if (wrong <= MASK_LEFT_OFF && *comparison == others[wrong][0]) *comparison = others[wrong][1];
     if (wrong == MASK_LEFT_OFF) memset(condition + MASK, 0, 8);
     if (wrong == DWORD_SEES_ALL) *width = CALLFILTER_QWORD;
-    if (wrong == QWORD_SEES_LOW) *width = CALLFILTER_DWORD;
+    if (wrong == QWORD_SEES_LOW) *width = CALLFILTER_DWORD, memset(condition + VALUE + 4, 0, 4), memset(condition + MASK + 4, 0, 4);
     if (wrong == NEXT_ARGUMENT) *index = *index < 5 ? *index + 1 : 0;
 }
 

@@ -63,6 +63,7 @@ fn answer(bytes: &[u8], room: u32, opinions: &mut Opinions) -> (u32, u32, BpfPro
 
     let mut empty = false;
     let mut beyond = false;
+    let mut wide = false;
     let mut rules = Rules::new();
     for entry in &set.entries {
         let mut made = vec![];
@@ -72,6 +73,8 @@ fn answer(bytes: &[u8], room: u32, opinions: &mut Opinions) -> (u32, u32, BpfPro
                 let result = condition(given);
                 opinions.ask(INDEX, given.index > 5, result == Err(Error::InvalidArgumentNumber), bytes);
                 beyond |= given.index > 5;
+                // the real code takes these, and ignores what is above 32 bits: a listed difference
+                wide |= !given.wide && (given.value | given.mask) >> 32 != 0;
                 conditions.extend(result.ok());
             }
             if conditions.len() == rule.len() {
@@ -98,6 +101,8 @@ fn answer(bytes: &[u8], room: u32, opinions: &mut Opinions) -> (u32, u32, BpfPro
             let count = program.len() as u32;
             if u64::from(room) < 8 * u64::from(count) {
                 (7, count, vec![])
+            } else if wide {
+                (8, 0, vec![])
             } else {
                 (0, count, program)
             }

@@ -67,10 +67,7 @@ class Draw:
             value = self.of((argument + 1, argument - 1, argument + 2 ** 32, self.value())) % limit
         if self.chance(40):
             value = self.value()
-        # the upper half that a dword condition ignores
-        if width == 4 and self.chance(3):
-            value = value % 2 ** 32 + (self.value() >> 32 << 32)
-        return index, width, operator, value, mask
+        return index, width, operator, value % limit, mask % limit
 
     def rule(self, count, operator=None, width=None):
         wanted = [self.value() for _ in range(6)]
@@ -161,7 +158,7 @@ class Draw:
         architecture, mismatch, match, entries = rule_set
         entries = [(number, [list(rule) for rule in rules]) for number, rules in entries] or [(7, [])]
         for _ in range(self.between(1, 2)):
-            way = self.below(4)
+            way = self.below(5)
             place = self.below(len(entries))
             number, rules = entries[place]
             if way == 0:
@@ -173,7 +170,15 @@ class Draw:
             else:
                 rule = self.rule(self.between(1, 3))
                 at = self.below(len(rule))
-                rule[at] = (self.of((6, 7, 8, 127, 128, 255)), *rule[at][1:])
+                index, width, operator, value, mask = rule[at]
+                if way == 3:
+                    index = self.of((6, 7, 8, 127, 128, 255))
+                else:
+                    # more than a dword condition looks at
+                    high = 1 << self.between(32, 63)
+                    width, value, mask = self.of(((4, value | high, mask), (4, value, mask | high if operator == MASKED_EQ else mask)))
+                    value, mask = (value if value >> 32 else value % 2 ** 32), (mask if mask >> 32 else mask % 2 ** 32)
+                rule[at] = index, width, operator, value, mask
                 rules.insert(self.below(len(rules) + 1), rule)
         return architecture, mismatch, match, entries
 

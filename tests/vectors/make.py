@@ -95,17 +95,18 @@ def answers():
     yield encode((*HEAD, [(0, [[(6, 4, EQ, 0, 0)]])])), 1024
     yield encode((*HEAD, [(number, []) for number in range(819)])), LONGEST_FILTER
     yield encode((*HEAD, [])), 31
+    yield encode((*HEAD, [(0, [[(0, 4, EQ, 2 ** 32, 0)]])])), 1024
 
 
 def answer_pairs():
     """Sets that two or more answers apply to: the smallest one counts."""
-    reasons = (2, 3, 4, 5, 6, 7)
+    reasons = (2, 3, 4, 5, 6, 7, 8)
     for chosen in range(1, 2 ** len(reasons)):
         applies = {reason for place, reason in enumerate(reasons) if chosen >> place & 1}
         # the length costs bytes, so it is paired with each other reason but not with all their pairings
         if 6 in applies and len(applies) > 2:
             continue
-        rules = ([[]] if 4 in applies else []) + [[(9 if 5 in applies else 5, 8, NE, 1, 0)]]
+        rules = ([[]] if 4 in applies else []) + [[(9 if 5 in applies else 5, 4, NE, 2 ** 32 if 8 in applies else 1, 0)]]
         entries = [(4, rules), (4 if 2 in applies else 5, [])]
         if 6 in applies:
             entries += [(number, []) for number in range(6, 6 + 818)]
@@ -136,14 +137,16 @@ def indices():
     for index in (0, 1, 2, 3, 4, 5, 6, 7, 127, 128, 255):
         for width in WIDTHS:
             for operator in OPERATORS if index < 6 else (EQ, MASKED_EQ):
-                yield fitting(one_rule([(index, width, operator, 2 ** 40 + 7, 2 ** 36 + 5 if operator == MASKED_EQ else 0)]))
+                high = 2 ** 36 if width == 8 else 2 ** 28
+                yield fitting(one_rule([(index, width, operator, high + 7, high + 5 if operator == MASKED_EQ else 0)]))
     # the index that is too large stands in the last of several conditions, rules, entries
     yield encode((*HEAD, [(0, []), (1, [[ONE]]), (2, [[ONE], [ONE, ONE, (6, 8, GT, 0, 0)]])])), 4096
 
 
 def repeated(operator, width, count):
     mask = 2 ** 33 + 2 ** 31 + 3 if operator == MASKED_EQ else 0
-    return [(place % 6, width, operator, place * (2 ** 32 + 1), mask) for place in range(count)]
+    seen = 2 ** (8 * width)
+    return [(place % 6, width, operator, place * (2 ** 32 + 1) % seen, mask % seen) for place in range(count)]
 
 
 def around(rule):
@@ -468,7 +471,7 @@ def main():
     assert len(stored) < LARGEST_FILE, len(stored)
 
     codes = [code for code, _, _ in expected]
-    counts = ", ".join(f"{code}: {codes.count(code)}" for code in range(8))
+    counts = ", ".join(f"{code}: {codes.count(code)}" for code in range(9))
     print(f"{len(frames)} vectors of {len(kinds)} kinds, {len(stored)} bytes; answers ({counts})")
     if "--check" in sys.argv[1:]:
         same = STORED.is_file() and STORED.read_bytes() == stored and PRINTED.is_file() and PRINTED.read_text() == printed

@@ -206,6 +206,8 @@ def answer(data, room):
         return 6, count, b""
     if room < 8 * count:
         return 7, count, b""
+    if any(width == 4 and (value | mask) >> 32 for rule in rules for _, width, _, value, mask in rule):
+        return 8, 0, b""
     written = filter_bytes(rule_set)
     assert len(written) == 8 * count, "the summed length is not the written one"
     return 0, count, written

@@ -1,10 +1,12 @@
 -- Laws that join what is said of a set with the answer's definition.
 use mathlib.Core.Path.{_≡_, refl, _∙_}
+use mathlib.Core.Bool.{Bool, true, false, cond, not}
 use mathlib.Core.List.{List}
 use mathlib.Core.Option.{Option, none, some}
 use Prim.Native.Nat.{ℕ, _*_, _≤_}
 use native.Mathlib.Nat.{zero-add}
 use native.Mathlib.Omega.{arith}
+use lib.Dec.{eqb, leb, ltb}
 use lib.ListN.{length}
 use Rattle.definitions.specs.declared.Answer.{Answer}
 use Rattle.definitions.specs.Word.{numberAt, AreBytes}
@@ -12,7 +14,7 @@ use Rattle.definitions.specs.Machine.{filterBytes}
 use Rattle.definitions.specs.Emitted.{emitted}
 use Rattle.definitions.specs.RuleSet.{RuleSet}
 use Rattle.definitions.specs.Format.{read}
-use Rattle.definitions.specs.Answer.{answerWith, answerRead, answerOf}
+use Rattle.definitions.specs.Answer.{ascending, rulesFilled, indicesTaken, widthsFit, tooMany, answer, codeWith, refusal, countWith, answerWith, answerRead, answerOf}
 use Rattle.definitions.specs.Compiled.{Compiled}
 use Rattle.theorems.proofs.Lengths.{length-emitted}
 use Rattle.theorems.proofs.Bytes.{length-filter}
@@ -22,16 +24,40 @@ use Rattle.bpf.specs.Place.{place}
 use Rattle.filter.specs.At.{entriesPast, setHere}
 use Rattle.filter.proofs.Agree.{read-agrees}
 use Rattle.ruleset.specs.Scan.{judged}
-use Rattle.callfilter.specs.Verdict.{answerFrom}
+use Rattle.ruleset.specs.declared.Judged.{Judged}
+use Rattle.callfilter.specs.Verdict.{early, codeFrom}
 
-by-answer : (room : ℕ) (x : Option RuleSet) → answerRead x room ≡ answerFrom (judged x) room
-unfolding answerFrom judged answerWith
-by-answer room none = refl
-by-answer room (some rs) = rw (← length-emitted rs)
+code-by : (a b c d w x y : Bool)
+    → _≡_ {A = ℕ} (cond a 2 (cond b 3 (cond c 4 (cond d 5 (cond x 6 (cond y 7 (cond w 8 0)))))))
+    (cond (early (cond a 2 (cond b 3 (cond c 4 (cond d 5 (cond w 8 0)))))) (cond a 2 (cond b 3 (cond c 4 (cond d 5 (cond w 8 0)))))
+    (cond x 6 (cond y 7 (cond a 2 (cond b 3 (cond c 4 (cond d 5 (cond w 8 0))))))))
+code-by true b c d w x y = refl
+code-by false true c d w x y = refl
+code-by false false true d w x y = refl
+code-by false false false true w x y = refl
+code-by false false false false true x y = refl
+code-by false false false false false x y = refl
 
-pub answer-from : (s : List ℕ) (room : ℕ) → answerOf s room ≡ answerFrom (judged (read s)) room
+code-from : (n : ℕ) (rs : RuleSet) (room : ℕ) → codeWith n rs room ≡ codeFrom (refusal rs) n room
+unfolding codeWith codeFrom
+code-from n rs room =
+    code-by (not (ascending (rs .entries))) (eqb (rs .mismatch) (rs .onMatch)) (not (rulesFilled rs)) (not (indicesTaken rs)) (not (widthsFit rs))
+    (leb tooMany n) (ltb room (8 * n))
+
+one-from : (n room : ℕ) → codeFrom 1 n room ≡ 1
+unfolding codeFrom
+one-from n room = refl
+
+by-answer : (room : ℕ) (x : Option RuleSet)
+    → answerRead x room ≡ answer (codeFrom (judged x .code) (judged x .count) room) (countWith (codeFrom (judged x .code) (judged x .count) room) (judged x .count))
+unfolding judged answerWith
+by-answer room none = rw (one-from 0 room)
+by-answer room (some rs) = rw (← length-emitted rs, ← code-from (length (emitted rs)) rs room)
+
+pub answer-from : (s : List ℕ) (room : ℕ) (j : Judged) → j ≡ judged (read s)
+    → answerOf s room ≡ answer (codeFrom (j .code) (j .count) room) (countWith (codeFrom (j .code) (j .count) room) (j .count))
 unfolding answerOf
-answer-from s room = by-answer room (read s)
+answer-from s room j e = rw e (by-answer room (read s))
 
 -- ---- the filter may be written, and is then the compiled one
 

@@ -4,6 +4,7 @@ ghost use mathlib.Core.Path.{_≡_};
 ghost use mathlib.Core.Bool.{true, not};
 ghost use mathlib.Core.Option.{some};
 ghost use lib.Dec.{eqb};
+ghost use Prim.Native.Nat.{_≤_};
 ghost use Rattle.definitions.specs.Answer as answers;
 ghost use Rattle.definitions.specs.Compiled.{Compiled};
 ghost use Rattle.definitions.specs.Kernel.{acceptsBytes};
@@ -11,6 +12,7 @@ ghost use Rattle.definitions.specs.Outcome.{outcomeOf, decidedOf};
 ghost use Rattle.definitions.specs.Parts.{withEntry, withRule, conditionPart};
 ghost use Rattle.definitions.specs.Writers.{Started, Added};
 ghost use Rattle.definitions.specs.Readers as readers;
+ghost use Rattle.callfilter.specs.Verdict.{early, codeFrom};
 use definitions::Answer;
 use definitions::Compared;
 use definitions::Cursor;
@@ -28,24 +30,53 @@ fn give(code: u32, count: u32) -> Answer
     }
 }
 
+// Whether what is refused comes before the filter's length.
+fn is_early(refused: u32) -> bool
+    ensures { λ r. ⌜ r ≡ early refused ⌝ }
+{
+    if refused == 0 {
+        return false;
+    }
+    refused < 6
+}
+
+// The smallest number that applies to a set in which `refused` is refused, 0 for nothing, and whose filter has `size` instructions.
+fn code_from(refused: u32, size: usize, room: usize) -> u32
+    requires { ⌜ size ≤ 1048581 ⌝ }
+    ensures { λ r. ⌜ r ≡ codeFrom refused size room ⌝ }
+{
+    if is_early(refused) {
+        return refused;
+    }
+    if 4097 <= size {
+        return 6;
+    }
+    if room < 8 * size {
+        return 7;
+    }
+    refused
+}
+
+// How many instructions are told with a code.
+fn count_with(code: u32, count: u32) -> u32
+    ensures { λ r. ⌜ r ≡ answers.countWith code count ⌝ }
+{
+    match code {
+        0 => count,
+        6 => count,
+        7 => count,
+        _ => 0,
+    }
+}
+
 // The answer for a set and a room.
 fn verdict(set: &[u8], room: usize) -> Answer
     ensures { λ r. ⌜ r ≡ answers.answerOf (now (set .entry)) room ⌝ }
 {
     let found = ruleset::judge(set);
-    let code = found.code;
-    if code != 0 {
-        return give(code, 0);
-    }
     let size = found.count;
-    let count = size as u32;
-    if 4097 <= size {
-        return give(6, count);
-    }
-    if room < 8 * size {
-        return give(7, count);
-    }
-    give(0, count)
+    let code = code_from(found.code, size, room);
+    give(code, count_with(code, size as u32))
 }
 
 // Compiles a rule set into a lent buffer.

@@ -9,12 +9,15 @@
 --   5  an argument index above 5
 --   6  too many instructions
 --   7  the output buffer is too short
+--   8  a dword condition whose value or mask has more than 32 bits
 use Prim.Native.Nat.{ℕ, _*_}
 use mathlib.Core.Bool.{Bool, true, false, cond, not, _&&_, _||_}
 use mathlib.Core.List.{List, [], _∷_}
 use mathlib.Core.Option.{Option, none, some}
 use lib.Dec.{eqb, leb, ltb}
 use lib.ListN.{length}
+use Rattle.definitions.specs.declared.Width.{Width}
+use Rattle.definitions.specs.declared.Width.the-variants.{Dword, Qword}
 use Rattle.definitions.specs.declared.Condition.{Condition}
 use Rattle.definitions.specs.declared.Answer.{Answer}
 use Rattle.definitions.specs.RuleSet.{Rule, Entry, RuleSet}
@@ -47,6 +50,17 @@ rulesFilled rs = everyRule hasConditions rs
 abbrev pub indicesTaken : RuleSet → Bool
 indicesTaken rs = everyRule (all indexTaken) rs
 
+-- a number that a condition of this width looks at whole
+abbrev pub seenWhole : Width → ℕ → Bool
+seenWhole Dword x = leb x 0xffffffff
+seenWhole Qword x = true
+
+abbrev pub fitsWidth : Condition → Bool
+fitsWidth q = seenWhole (q .width) (q .value) && seenWhole (q .width) (q .mask)
+
+abbrev pub widthsFit : RuleSet → Bool
+widthsFit rs = everyRule (all fitsWidth) rs
+
 -- the kernel takes 4,096 instructions (BPF_MAXINSNS); a filter of this many, or more, is refused
 abbrev pub tooMany : ℕ
 tooMany = 4097
@@ -54,22 +68,28 @@ tooMany = 4097
 abbrev pub answer : ℕ → ℕ → Answer
 answer code count = record { code = code; count = count }
 
--- what is refused in a rule set, whatever its filter's length: the smallest number from 2 to 5 that applies, or 0
-unfoldable pub refusal : RuleSet → ℕ
-refusal rs =
+-- the smallest number that applies to a rule set whose filter has n instructions
+unfoldable pub codeWith : ℕ → RuleSet → ℕ → ℕ
+codeWith n rs room =
     cond (not (ascending (rs .entries))) 2
     (cond (eqb (rs .mismatch) (rs .onMatch)) 3
     (cond (not (rulesFilled rs)) 4
     (cond (not (indicesTaken rs)) 5
-    0)))
+    (cond (leb tooMany n) 6
+    (cond (ltb room (8 * n)) 7
+    (cond (not (widthsFit rs)) 8
+    0))))))
 
--- where nothing is refused, and the filter has n instructions
-abbrev pub answerFitting : ℕ → ℕ → Answer
-answerFitting n room = cond (leb tooMany n) (answer 6 n) (cond (ltb room (8 * n)) (answer 7 n) (answer 0 n))
+-- what is refused in a rule set, whatever its filter's length: as if it had no instructions
+abbrev pub refusal : RuleSet → ℕ
+refusal rs = codeWith 0 rs 0
 
--- a rule set whose filter has n instructions
+-- how many instructions are told of n
+abbrev pub countWith : ℕ → ℕ → ℕ
+countWith code n = cond (eqb code 0 || eqb code 6 || eqb code 7) n 0
+
 unfoldable pub answerWith : ℕ → RuleSet → ℕ → Answer
-answerWith n rs room = cond (eqb (refusal rs) 0) (answerFitting n room) (answer (refusal rs) 0)
+answerWith n rs room = answer (codeWith n rs room) (countWith (codeWith n rs room) n)
 
 abbrev pub answerRead : Option RuleSet → ℕ → Answer
 answerRead none room = answer 1 0

@@ -14,7 +14,7 @@ use Rattle.definitions.specs.declared.Condition.{Condition}
 use Rattle.definitions.specs.Word.{numberAt, AreBytes}
 use Rattle.definitions.specs.RuleSet.{Architecture, Rule, Entry, isAction}
 use Rattle.definitions.specs.Format.{isThere, Read, then, check, times, architectureOf, widthOf, operatorOf, maskTaken, conditionAt, ruleAt, entryAt, read}
-use Rattle.definitions.specs.Answer.{all, hasConditions, indexTaken, ascending}
+use Rattle.definitions.specs.Answer.{all, hasConditions, indexTaken, fitsWidth, ascending}
 use Rattle.definitions.specs.Emitted.{stepCode, stepDistance}
 use Rattle.theorems.specs.Length.{conditionsLength, sum, ruleLength, bodyLength, entryLength, filterLength}
 use Rattle.theorems.proofs.Names.{operator-there}
@@ -108,33 +108,33 @@ times-some f (suc n) at r h e = let d : suc n - 1 ≡ n = omega arith in rw (d, 
 
 -- ---- conditions
 
-pub conditions-stop : (s : List ℕ) (n at c d : ℕ) (i : Bool) → (n ≡ 0 → ⊥) → isThere (conditionAt s at) ≡ false
-    → conditionsScan c d i (times (conditionAt s) n at) ≡ notThere
+pub conditions-stop : (s : List ℕ) (n at c d : ℕ) (i w : Bool) → (n ≡ 0 → ⊥) → isThere (conditionAt s at) ≡ false
+    → conditionsScan c d i w (times (conditionAt s) n at) ≡ notThere
 unfolding conditionsScan
-conditions-stop s n at c d i h e = rw (times-none (conditionAt s) n at h (there-not (conditionAt s at) e))
+conditions-stop s n at c d i w h e = rw (times-none (conditionAt s) n at h (there-not (conditionAt s at) e))
 
-conditions-more : (q : Condition) (c d : ℕ) (i : Bool) (x : Option (Read Rule))
-    → conditionsScan c d i (then x (λ more. some (record { value = q ∷ more .value; past = more .past })))
-    ≡ conditionsScan (c + length (stepCode q d)) (stepDistance q d) (i && indexTaken q) x
+conditions-more : (q : Condition) (c d : ℕ) (i w : Bool) (x : Option (Read Rule))
+    → conditionsScan c d i w (then x (λ more. some (record { value = q ∷ more .value; past = more .past })))
+    ≡ conditionsScan (c + length (stepCode q d)) (stepDistance q d) (i && indexTaken q) (w && fitsWidth q) x
 unfolding conditionsScan
-conditions-more q c d i none = refl
-conditions-more q c d i (some r) =
+conditions-more q c d i w none = refl
+conditions-more q c d i w (some r) =
     let n : conditionsLength (q ∷ r .value) d ≡ conditionsLength (r .value) (stepDistance q d) + length (stepCode q d) = length-step q (r .value) d in
     let k : c + conditionsLength (q ∷ r .value) d ≡ c + length (stepCode q d) + conditionsLength (r .value) (stepDistance q d) = omega arith in
-    rw (k, and-assoc i (indexTaken q) (all indexTaken (r .value)))
+    rw (k, and-assoc i (indexTaken q) (all indexTaken (r .value)), and-assoc w (fitsWidth q) (all fitsWidth (r .value)))
 
-pub conditions-turn : (s : List ℕ) (n at c d : ℕ) (i : Bool) → (n ≡ 0 → ⊥) → isThere (conditionAt s at) ≡ true
-    → conditionsScan c d i (times (conditionAt s) n at)
-    ≡ conditionsScan (c + length (stepCode (conditionHere s at) d)) (stepDistance (conditionHere s at) d) (i && indexTaken (conditionHere s at))
+pub conditions-turn : (s : List ℕ) (n at c d : ℕ) (i w : Bool) → (n ≡ 0 → ⊥) → isThere (conditionAt s at) ≡ true
+    → conditionsScan c d i w (times (conditionAt s) n at)
+    ≡ conditionsScan (c + length (stepCode (conditionHere s at) d)) (stepDistance (conditionHere s at) d) (i && indexTaken (conditionHere s at)) (w && fitsWidth (conditionHere s at))
     (times (conditionAt s) (n - 1) (at + 24))
-conditions-turn s n at c d i h e =
+conditions-turn s n at c d i w h e =
     rw (times-some (conditionAt s) n at (record { value = conditionHere s at; past = at + 24 }) h (condition-value s at e))
-    (conditions-more (conditionHere s at) c d i (times (conditionAt s) (n - 1) (at + 24)))
+    (conditions-more (conditionHere s at) c d i w (times (conditionAt s) (n - 1) (at + 24)))
 
-pub conditions-end : (s : List ℕ) (n at c d : ℕ) (i : Bool) → n ≡ 0
-    → conditionsScan c d i (times (conditionAt s) n at) ≡ record { ok = true; past = at; count = c; filled = true; indexed = i; ascending = true }
+pub conditions-end : (s : List ℕ) (n at c d : ℕ) (i w : Bool) → n ≡ 0
+    → conditionsScan c d i w (times (conditionAt s) n at) ≡ record { ok = true; past = at; count = c; filled = true; indexed = i; fitted = w; ascending = true }
 unfolding conditionsScan times conditionsLength
-conditions-end s n at c d i e = rw (e, add-zero c, and-true i)
+conditions-end s n at c d i w e = rw (e, add-zero c, and-true i, and-true w)
 
 -- ---- a rule
 
@@ -143,7 +143,7 @@ unfolding conditionsHere
 filled-here s zero at = refl
 filled-here s (suc n) at = rw (ne-eqb (suc n) 0 (omega arith))
 
-rule-by : (s : List ℕ) (n at : ℕ) (x : Option (Read Rule)) → times (conditionAt s) n at ≡ x → ruleScan x ≡ ruleFrom n (conditionsScan 0 1 true x)
+rule-by : (s : List ℕ) (n at : ℕ) (x : Option (Read Rule)) → times (conditionAt s) n at ≡ x → ruleScan x ≡ ruleFrom n (conditionsScan 0 1 true true x)
 unfolding ruleScan ruleFrom conditionsScan
 rule-by s n at none e = refl
 rule-by s n at (some r) e =
@@ -153,12 +153,12 @@ rule-by s n at (some r) e =
     rw (k, f)
 
 pub rule-from : (s : List ℕ) (at : ℕ) → at + 4 ≤ length s
-    → ruleScan (ruleAt s at) ≡ ruleFrom (numberAt 4 s at) (conditionsScan 0 1 true (times (conditionAt s) (numberAt 4 s at) (at + 4)))
+    → ruleScan (ruleAt s at) ≡ ruleFrom (numberAt 4 s at) (conditionsScan 0 1 true true (times (conditionAt s) (numberAt 4 s at) (at + 4)))
 unfolding ruleAt
 rule-from s at room = rw (le-leb (at + 4) (length s) room) (go (times (conditionAt s) (numberAt 4 s at) (at + 4)) refl)
   where
     go : (x : Option (Read Rule)) → times (conditionAt s) (numberAt 4 s at) (at + 4) ≡ x
-        → ruleScan x ≡ ruleFrom (numberAt 4 s at) (conditionsScan 0 1 true x)
+        → ruleScan x ≡ ruleFrom (numberAt 4 s at) (conditionsScan 0 1 true true x)
     go = rule-by s (numberAt 4 s at) (at + 4)
 
 pub rule-short : (s : List ℕ) (at : ℕ) → length s < at + 4 → ruleScan (ruleAt s at) ≡ notThere
@@ -172,40 +172,40 @@ unfolding ruleScan
 rule-not none e = refl
 rule-not (some r) e = cc
 
-pub rules-stop : (s : List ℕ) (n at c : ℕ) (f i : Bool) → (n ≡ 0 → ⊥) → ruleScan (ruleAt s at) .ok ≡ false
-    → rulesScan c f i (times (ruleAt s) n at) ≡ notThere
+pub rules-stop : (s : List ℕ) (n at c : ℕ) (f i w : Bool) → (n ≡ 0 → ⊥) → ruleScan (ruleAt s at) .ok ≡ false
+    → rulesScan c f i w (times (ruleAt s) n at) ≡ notThere
 unfolding rulesScan
-rules-stop s n at c f i h e = rw (times-none (ruleAt s) n at h (rule-not (ruleAt s at) e))
+rules-stop s n at c f i w h e = rw (times-none (ruleAt s) n at h (rule-not (ruleAt s at) e))
 
-rules-more : (r : Rule) (c : ℕ) (f i : Bool) (x : Option (Read (List Rule)))
-    → rulesScan c f i (then x (λ more. some (record { value = r ∷ more .value; past = more .past })))
-    ≡ rulesScan (c + ruleLength r) (f && hasConditions r) (i && all indexTaken r) x
+rules-more : (r : Rule) (c : ℕ) (f i w : Bool) (x : Option (Read (List Rule)))
+    → rulesScan c f i w (then x (λ more. some (record { value = r ∷ more .value; past = more .past })))
+    ≡ rulesScan (c + ruleLength r) (f && hasConditions r) (i && all indexTaken r) (w && all fitsWidth r) x
 unfolding rulesScan
-rules-more r c f i none = refl
-rules-more r c f i (some x) =
-    rw (and-assoc f (hasConditions r) (all hasConditions (x .value)), and-assoc i (all indexTaken r) (all (all indexTaken) (x .value)), ← add-assoc c (ruleLength r) (sum ruleLength (x .value)))
+rules-more r c f i w none = refl
+rules-more r c f i w (some x) =
+    rw (and-assoc f (hasConditions r) (all hasConditions (x .value)), and-assoc i (all indexTaken r) (all (all indexTaken) (x .value)), and-assoc w (all fitsWidth r) (all (all fitsWidth) (x .value)), ← add-assoc c (ruleLength r) (sum ruleLength (x .value)))
 
-rules-by : (s : List ℕ) (n at c : ℕ) (f i : Bool) → (n ≡ 0 → ⊥) → (x : Option (Read Rule)) → ruleAt s at ≡ x → ruleScan x .ok ≡ true
-    → rulesScan c f i (times (ruleAt s) n at)
-    ≡ rulesScan (c + ruleScan x .count) (f && ruleScan x .filled) (i && ruleScan x .indexed) (times (ruleAt s) (n - 1) (ruleScan x .past))
+rules-by : (s : List ℕ) (n at c : ℕ) (f i w : Bool) → (n ≡ 0 → ⊥) → (x : Option (Read Rule)) → ruleAt s at ≡ x → ruleScan x .ok ≡ true
+    → rulesScan c f i w (times (ruleAt s) n at)
+    ≡ rulesScan (c + ruleScan x .count) (f && ruleScan x .filled) (i && ruleScan x .indexed) (w && ruleScan x .fitted) (times (ruleAt s) (n - 1) (ruleScan x .past))
 unfolding ruleScan
-rules-by s n at c f i h none p e = absurd (let z : _≡_ {A = ℕ} 0 1 = cc in omega arith)
-rules-by s n at c f i h (some r) p e =
-    rw (times-some (ruleAt s) n at r h p) (rules-more (r .value) c f i (times (ruleAt s) (n - 1) (r .past)))
+rules-by s n at c f i w h none p e = absurd (let z : _≡_ {A = ℕ} 0 1 = cc in omega arith)
+rules-by s n at c f i w h (some r) p e =
+    rw (times-some (ruleAt s) n at r h p) (rules-more (r .value) c f i w (times (ruleAt s) (n - 1) (r .past)))
 
-pub rules-turn : (s : List ℕ) (n at c : ℕ) (f i : Bool) (r : Scan) → (n ≡ 0 → ⊥) → r ≡ ruleScan (ruleAt s at) → r .ok ≡ true
-    → rulesScan c f i (times (ruleAt s) n at) ≡ rulesScan (c + r .count) (f && r .filled) (i && r .indexed) (times (ruleAt s) (n - 1) (r .past))
-rules-turn s n at c f i r h p e = rw p (go (ruleAt s at) refl (rw p at e))
+pub rules-turn : (s : List ℕ) (n at c : ℕ) (f i w : Bool) (r : Scan) → (n ≡ 0 → ⊥) → r ≡ ruleScan (ruleAt s at) → r .ok ≡ true
+    → rulesScan c f i w (times (ruleAt s) n at) ≡ rulesScan (c + r .count) (f && r .filled) (i && r .indexed) (w && r .fitted) (times (ruleAt s) (n - 1) (r .past))
+rules-turn s n at c f i w r h p e = rw p (go (ruleAt s at) refl (rw p at e))
   where
     go : (x : Option (Read Rule)) → ruleAt s at ≡ x → ruleScan x .ok ≡ true
-        → rulesScan c f i (times (ruleAt s) n at)
-        ≡ rulesScan (c + ruleScan x .count) (f && ruleScan x .filled) (i && ruleScan x .indexed) (times (ruleAt s) (n - 1) (ruleScan x .past))
-    go = rules-by s n at c f i h
+        → rulesScan c f i w (times (ruleAt s) n at)
+        ≡ rulesScan (c + ruleScan x .count) (f && ruleScan x .filled) (i && ruleScan x .indexed) (w && ruleScan x .fitted) (times (ruleAt s) (n - 1) (ruleScan x .past))
+    go = rules-by s n at c f i w h
 
-pub rules-end : (s : List ℕ) (n at c : ℕ) (f i : Bool) → n ≡ 0
-    → rulesScan c f i (times (ruleAt s) n at) ≡ record { ok = true; past = at; count = c; filled = f; indexed = i; ascending = true }
+pub rules-end : (s : List ℕ) (n at c : ℕ) (f i w : Bool) → n ≡ 0
+    → rulesScan c f i w (times (ruleAt s) n at) ≡ record { ok = true; past = at; count = c; filled = f; indexed = i; fitted = w; ascending = true }
 unfolding rulesScan times
-rules-end s n at c f i e = rw (e, add-zero c, and-true f, and-true i)
+rules-end s n at c f i w e = rw (e, add-zero c, and-true f, and-true i, and-true w)
 
 -- ---- an entry
 
@@ -216,7 +216,7 @@ body-here s (suc n) at = rw (ne-eqb (suc n) 0 (omega arith))
 
 entry-by : (s : List ℕ) (n at number : ℕ) (x : Option (Read (List Rule))) → times (ruleAt s) n at ≡ x
     → entryScan (then x (λ rules. some (record { value = record { number = number; rules = rules .value }; past = rules .past })))
-    ≡ entryFrom n (rulesScan 0 true true x)
+    ≡ entryFrom n (rulesScan 0 true true true x)
 unfolding entryScan entryFrom rulesScan
 entry-by s n at number none e = refl
 entry-by s n at number (some r) e =
@@ -226,7 +226,7 @@ entry-by s n at number (some r) e =
     rw (b, k)
 
 pub entry-from : (s : List ℕ) (at : ℕ) → at + 8 ≤ length s
-    → entryScan (entryAt s at) ≡ entryFrom (numberAt 4 s (at + 4)) (rulesScan 0 true true (times (ruleAt s) (numberAt 4 s (at + 4)) (at + 8)))
+    → entryScan (entryAt s at) ≡ entryFrom (numberAt 4 s (at + 4)) (rulesScan 0 true true true (times (ruleAt s) (numberAt 4 s (at + 4)) (at + 8)))
 unfolding entryAt
 entry-from s at room = rw (le-leb (at + 8) (length s) room) (entry-by s (numberAt 4 s (at + 4)) (at + 8) (numberAt 4 s at) (times (ruleAt s) (numberAt 4 s (at + 4)) (at + 8)) refl)
 
@@ -249,20 +249,21 @@ unfolding entryScan
 entry-not none e = refl
 entry-not (some r) e = cc
 
-pub entries-stop : (s : List ℕ) (n at c : ℕ) (f i a : Bool) (l : ℕ) → (n ≡ 0 → ⊥) → entryScan (entryAt s at) .ok ≡ false
-    → entriesScan c f i a l (times (entryAt s) n at) ≡ notThere
+pub entries-stop : (s : List ℕ) (n at c : ℕ) (f i w a : Bool) (l : ℕ) → (n ≡ 0 → ⊥) → entryScan (entryAt s at) .ok ≡ false
+    → entriesScan c f i w a l (times (entryAt s) n at) ≡ notThere
 unfolding entriesScan
-entries-stop s n at c f i a l h e = rw (times-none (entryAt s) n at h (entry-not (entryAt s at) e))
+entries-stop s n at c f i w a l h e = rw (times-none (entryAt s) n at h (entry-not (entryAt s at) e))
 
-entries-more : (x : Entry) (c : ℕ) (f i a : Bool) (l : ℕ) (more : Option (Read (List Entry)))
-    → entriesScan c f i a l (then more (λ m. some (record { value = x ∷ m .value; past = m .past })))
-    ≡ entriesScan (c + entryLength x) (f && all hasConditions (x .rules)) (i && all (all indexTaken) (x .rules)) (a && leb l (x .number)) (x .number + 1) more
+entries-more : (x : Entry) (c : ℕ) (f i w a : Bool) (l : ℕ) (more : Option (Read (List Entry)))
+    → entriesScan c f i w a l (then more (λ m. some (record { value = x ∷ m .value; past = m .past })))
+    ≡ entriesScan (c + entryLength x) (f && all hasConditions (x .rules)) (i && all (all indexTaken) (x .rules)) (w && all (all fitsWidth) (x .rules)) (a && leb l (x .number)) (x .number + 1) more
 unfolding entriesScan ascendingFrom
-entries-more x c f i a l none = refl
-entries-more x c f i a l (some m) =
+entries-more x c f i w a l none = refl
+entries-more x c f i w a l (some m) =
     rw (
       and-assoc f (all hasConditions (x .rules)) (all (λ (e : Entry). all hasConditions (e .rules)) (m .value)),
       and-assoc i (all (all indexTaken) (x .rules)) (all (λ (e : Entry). all (all indexTaken) (e .rules)) (m .value)),
+      and-assoc w (all (all fitsWidth) (x .rules)) (all (λ (e : Entry). all (all fitsWidth) (e .rules)) (m .value)),
       and-assoc a (leb l (x .number)) (ascendingFrom (x .number + 1) (m .value)),
       ← add-assoc c (entryLength x) (sum entryLength (m .value)),
     )
@@ -275,24 +276,24 @@ entry-number s at {r} h =
     let w = then-some (times (ruleAt s) (numberAt 4 s (at + 4)) (at + 8)) _ a in
     ap (λ (x : Read Entry). x .value .number) (sym (some-same (w .2)))
 
-entries-by : (s : List ℕ) (n at c : ℕ) (f i a : Bool) (l : ℕ) → (n ≡ 0 → ⊥) → (x : Option (Read Entry)) → entryAt s at ≡ x → entryScan x .ok ≡ true
-    → entriesScan c f i a l (times (entryAt s) n at)
-    ≡ entriesScan (c + entryScan x .count) (f && entryScan x .filled) (i && entryScan x .indexed) (a && leb l (numberAt 4 s at)) (numberAt 4 s at + 1)
+entries-by : (s : List ℕ) (n at c : ℕ) (f i w a : Bool) (l : ℕ) → (n ≡ 0 → ⊥) → (x : Option (Read Entry)) → entryAt s at ≡ x → entryScan x .ok ≡ true
+    → entriesScan c f i w a l (times (entryAt s) n at)
+    ≡ entriesScan (c + entryScan x .count) (f && entryScan x .filled) (i && entryScan x .indexed) (w && entryScan x .fitted) (a && leb l (numberAt 4 s at)) (numberAt 4 s at + 1)
     (times (entryAt s) (n - 1) (entryScan x .past))
 unfolding entryScan
-entries-by s n at c f i a l h none p e = absurd (let z : _≡_ {A = ℕ} 0 1 = cc in omega arith)
-entries-by s n at c f i a l h (some r) p e =
-    rw (times-some (entryAt s) n at r h p, ← entry-number s at p) (entries-more (r .value) c f i a l (times (entryAt s) (n - 1) (r .past)))
+entries-by s n at c f i w a l h none p e = absurd (let z : _≡_ {A = ℕ} 0 1 = cc in omega arith)
+entries-by s n at c f i w a l h (some r) p e =
+    rw (times-some (entryAt s) n at r h p, ← entry-number s at p) (entries-more (r .value) c f i w a l (times (entryAt s) (n - 1) (r .past)))
 
-pub entries-turn : (s : List ℕ) (n at c : ℕ) (f i a : Bool) (l : ℕ) (r : Scan) → (n ≡ 0 → ⊥) → r ≡ entryScan (entryAt s at) → r .ok ≡ true
-    → entriesScan c f i a l (times (entryAt s) n at)
-    ≡ entriesScan (c + r .count) (f && r .filled) (i && r .indexed) (a && leb l (numberAt 4 s at)) (numberAt 4 s at + 1) (times (entryAt s) (n - 1) (r .past))
-entries-turn s n at c f i a l r h p e = rw p (entries-by s n at c f i a l h (entryAt s at) refl (rw p at e))
+pub entries-turn : (s : List ℕ) (n at c : ℕ) (f i w a : Bool) (l : ℕ) (r : Scan) → (n ≡ 0 → ⊥) → r ≡ entryScan (entryAt s at) → r .ok ≡ true
+    → entriesScan c f i w a l (times (entryAt s) n at)
+    ≡ entriesScan (c + r .count) (f && r .filled) (i && r .indexed) (w && r .fitted) (a && leb l (numberAt 4 s at)) (numberAt 4 s at + 1) (times (entryAt s) (n - 1) (r .past))
+entries-turn s n at c f i w a l r h p e = rw p (entries-by s n at c f i w a l h (entryAt s at) refl (rw p at e))
 
-pub entries-end : (s : List ℕ) (n at c : ℕ) (f i a : Bool) (l : ℕ) → n ≡ 0
-    → entriesScan c f i a l (times (entryAt s) n at) ≡ record { ok = true; past = at; count = c; filled = f; indexed = i; ascending = a }
+pub entries-end : (s : List ℕ) (n at c : ℕ) (f i w a : Bool) (l : ℕ) → n ≡ 0
+    → entriesScan c f i w a l (times (entryAt s) n at) ≡ record { ok = true; past = at; count = c; filled = f; indexed = i; fitted = w; ascending = a }
 unfolding entriesScan times ascendingFrom
-entries-end s n at c f i a l e = rw (e, add-zero c, and-true f, and-true i, and-true a)
+entries-end s n at c f i w a l e = rw (e, add-zero c, and-true f, and-true i, and-true w, and-true a)
 
 pub entry-room : (s : List ℕ) (at : ℕ) → entryScan (entryAt s at) .ok ≡ true → at + 8 ≤ length s
 entry-room s at h = go (leb (at + 8) (length s)) refl
@@ -313,17 +314,17 @@ plain-room s n at h =
     (λ e. let z : _≡_ {A = ℕ} 0 1 = cc (eq-eqb n 0 e, some .0) in omega arith, leb-true _ _ (there .0), eqb-true _ _ (there .1))
 
 plain-entry : (s : List ℕ) (at : ℕ) → at + 8 ≤ length s → numberAt 4 s (at + 4) ≡ 0
-    → record { ok = true; past = at + 8; count = 5; filled = true; indexed = true; ascending = true } ≡ entryScan (entryAt s at)
+    → record { ok = true; past = at + 8; count = 5; filled = true; indexed = true; fitted = true; ascending = true } ≡ entryScan (entryAt s at)
 unfolding entryFrom
-plain-entry s at room e = rw (entry-from s at room, rules-end s (numberAt 4 s (at + 4)) (at + 8) 0 true true e, e)
+plain-entry s at room e = rw (entry-from s at room, rules-end s (numberAt 4 s (at + 4)) (at + 8) 0 true true true e, e)
 
-pub plain-turn : (s : List ℕ) (n at c : ℕ) (f i a : Bool) (l : ℕ) → plainThere s n at ≡ true
-    → entriesScan c f i a l (times (entryAt s) n at)
-    ≡ entriesScan (c + 5) f i (a && leb l (numberAt 4 s at)) (numberAt 4 s at + 1) (times (entryAt s) (n - 1) (at + 8))
-plain-turn s n at c f i a l h =
+pub plain-turn : (s : List ℕ) (n at c : ℕ) (f i w a : Bool) (l : ℕ) → plainThere s n at ≡ true
+    → entriesScan c f i w a l (times (entryAt s) n at)
+    ≡ entriesScan (c + 5) f i w (a && leb l (numberAt 4 s at)) (numberAt 4 s at + 1) (times (entryAt s) (n - 1) (at + 8))
+plain-turn s n at c f i w a l h =
     let p = plain-room s n at h in
-    entries-turn s n at c f i a l (record { ok = true; past = at + 8; count = 5; filled = true; indexed = true; ascending = true })
-    (p .0) (plain-entry s at (p .1) (p .2)) refl ∙ rw (and-true f, and-true i)
+    entries-turn s n at c f i w a l (record { ok = true; past = at + 8; count = 5; filled = true; indexed = true; fitted = true; ascending = true })
+    (p .0) (plain-entry s at (p .1) (p .2)) refl ∙ rw (and-true f, and-true i, and-true w)
 
 -- where the walk over such entries ends elsewhere than it began, it has passed one
 pub plain-passed : (s : List ℕ) (n from left at : ℕ) → plainThere s n from ≡ true → plainThere s left at ≡ false
@@ -339,15 +340,15 @@ plain-passed s n from left at h stop spot le = go (leb n left) refl
 
 -- ---- a turn of the walk over entries
 
-pub turn-stopped : (s : List ℕ) (c : ℕ) (f i a : Bool) (r : Turn) → r .ok ≡ false → turnFrom s c f i a r ≡ notThere
+pub turn-stopped : (s : List ℕ) (c : ℕ) (f i w a : Bool) (r : Turn) → r .ok ≡ false → turnFrom s c f i w a r ≡ notThere
 unfolding turnFrom
-turn-stopped s c f i a r e = rw e
+turn-stopped s c f i w a r e = rw e
 
-pub turn-taken : (s : List ℕ) (c : ℕ) (f i a : Bool) (r : Turn) → r .ok ≡ true
-    → turnFrom s c f i a r
-    ≡ entriesScan (c + r .count) (f && r .filled) (i && r .indexed) (a && r .ascending) (r .least) (times (entryAt s) (r .left) (r .past))
+pub turn-taken : (s : List ℕ) (c : ℕ) (f i w a : Bool) (r : Turn) → r .ok ≡ true
+    → turnFrom s c f i w a r
+    ≡ entriesScan (c + r .count) (f && r .filled) (i && r .indexed) (w && r .fitted) (a && r .ascending) (r .least) (times (entryAt s) (r .left) (r .past))
 unfolding turnFrom
-turn-taken s c f i a r e = rw e
+turn-taken s c f i w a r e = rw e
 
 -- ---- the whole
 
@@ -384,6 +385,7 @@ entries-there : (size n : ℕ) (a : Architecture) (d m : ℕ) (r : Read (List En
       count = filterOr n (0 + sum entryLength (r .value));
       filled = all (λ (e : Entry). all hasConditions (e .rules)) (r .value);
       indexed = all (λ (e : Entry). all (all indexTaken) (e .rules)) (r .value);
+      fitted = all (λ (e : Entry). all (all fitsWidth) (e .rules)) (r .value);
       ascending = ascendingFrom 0 (r .value);
     })
     notThere
@@ -399,6 +401,7 @@ entries-there size n a d m r e =
           count = filterLength (r .value);
           filled = all (λ (e : Entry). all hasConditions (e .rules)) (r .value);
           indexed = all (λ (e : Entry). all (all indexTaken) (e .rules)) (r .value);
+          fitted = all (λ (e : Entry). all (all fitsWidth) (e .rules)) (r .value);
           ascending = ascending (r .value);
         })
         notThere
@@ -408,14 +411,15 @@ entries-there size n a d m r e =
 set-by : (size n : ℕ) (x : Option (Read (List Entry))) → ((r : Read (List Entry)) → x ≡ some r → length (r .value) ≡ n)
     → (A B C D : Bool) (arch : Option Architecture) (d m : ℕ)
     → setScan size (check (A && B && C && D) (then arch (λ a. then x (λ r. check (eqb (r .past) size) (some (record { architecture = a; mismatch = d; onMatch = m; entries = r .value }))))))
-    ≡ cond A (cond B (cond (isThere arch && (C && D)) (cond (entriesScan 0 true true true 0 x .ok) (cond (eqb (entriesScan 0 true true true 0 x .past) size)
+    ≡ cond A (cond B (cond (isThere arch && (C && D)) (cond (entriesScan 0 true true true true 0 x .ok) (cond (eqb (entriesScan 0 true true true true 0 x .past) size)
     (record {
       ok = true;
       past = size;
-      count = filterOr n (entriesScan 0 true true true 0 x .count);
-      filled = entriesScan 0 true true true 0 x .filled;
-      indexed = entriesScan 0 true true true 0 x .indexed;
-      ascending = entriesScan 0 true true true 0 x .ascending;
+      count = filterOr n (entriesScan 0 true true true true 0 x .count);
+      filled = entriesScan 0 true true true true 0 x .filled;
+      indexed = entriesScan 0 true true true true 0 x .indexed;
+      fitted = entriesScan 0 true true true true 0 x .fitted;
+      ascending = entriesScan 0 true true true true 0 x .ascending;
     })
     notThere) notThere) notThere) notThere) notThere
 unfolding setScan entriesScan
@@ -431,7 +435,7 @@ set-by size n (some r) l true true true true (some a) d m = entries-there size n
 
 pub set-from : (s : List ℕ)
     → setScan (length s) (read s)
-    ≡ setFrom (length s) (numberAt 4 s 12) (headTaken s) (entriesScan 0 true true true 0 (times (entryAt s) (numberAt 4 s 12) 16))
+    ≡ setFrom (length s) (numberAt 4 s 12) (headTaken s) (entriesScan 0 true true true true 0 (times (entryAt s) (numberAt 4 s 12) 16))
 unfolding read setFrom headTaken
 set-from s =
     set-by (length s) (numberAt 4 s 12) (times (entryAt s) (numberAt 4 s 12) 16) (λ r e. times-length (entryAt s) (numberAt 4 s 12) 16 e)

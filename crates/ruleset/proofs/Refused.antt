@@ -10,7 +10,7 @@ use lib.ListN.{length}
 use Rattle.definitions.specs.Word.{numberAt}
 use Rattle.definitions.specs.RuleSet.{RuleSet}
 use Rattle.definitions.specs.Format.{read}
-use Rattle.definitions.specs.Answer.{refusal}
+use Rattle.definitions.specs.Answer.{codeWith}
 use Rattle.theorems.proofs.Reading.{seen}
 use Rattle.ruleset.specs.Scan.{setScan, refusalFrom, judged}
 
@@ -27,7 +27,7 @@ judged-by : (s : List ℕ) (x : Option RuleSet) → read s ≡ x
     ≡ cond (setScan (length s) x .ok)
     (record { code = refusalFrom (setScan (length s) x) (eqb (numberAt 4 s 4) (numberAt 4 s 8)); count = setScan (length s) x .count })
     (record { code = 1; count = 0 })
-unfolding judged setScan refusalFrom refusal
+unfolding judged setScan refusalFrom codeWith
 judged-by s none e = refl
 judged-by s (some rs) e =
     let r = seen s rs e in

@@ -10,7 +10,7 @@ use lib.ListN.{length, getD}
 use Rattle.definitions.specs.Word.{numberAt}
 use Rattle.definitions.specs.RuleSet.{Rule, Entry, RuleSet, isAction}
 use Rattle.definitions.specs.Format.{architectureOf, widthOf, isThere, Read, times, entryAt}
-use Rattle.definitions.specs.Answer.{all, hasConditions, indexTaken, ascending, rulesFilled, indicesTaken, refusal}
+use Rattle.definitions.specs.Answer.{all, hasConditions, indexTaken, fitsWidth, ascending, rulesFilled, indicesTaken, widthsFit, refusal}
 use Rattle.theorems.specs.Length.{conditionsLength, sum, ruleLength, entryLength, filterLength}
 use Rattle.ruleset.specs.declared.Scan.{Scan}
 use Rattle.ruleset.specs.declared.Judged.{Judged}
@@ -25,23 +25,24 @@ conditionTaken s at =
     && (leb (getD s (at + 2) 0) 6 && (eqb (getD s (at + 2) 0) 5 || eqb (numberAt 8 s (at + 16)) 0))))
 
 abbrev pub notThere : Scan
-notThere = record { ok = false; past = 0; count = 0; filled = false; indexed = false; ascending = false }
+notThere = record { ok = false; past = 0; count = 0; filled = false; indexed = false; fitted = false; ascending = false }
 
 -- a walk that began at `from` in so many bytes
 pub record Scanned (found : Scan) (from size : ℕ) (r : Scan) : Type 0 where
   pub same : r ≡ found
   pub inside : r .ok ≡ true → (r .past ≤ size) × (r .count + from ≤ r .past)
 
--- conditions: n instructions so far, the distance d, all indices so far at most 5
-unfoldable pub conditionsScan : ℕ → ℕ → Bool → Option (Read Rule) → Scan
-conditionsScan n d i none = notThere
-conditionsScan n d i (some r) =
+-- conditions: n instructions so far, the distance d, all indices so far at most 5, all values and masks so far seen whole
+unfoldable pub conditionsScan : ℕ → ℕ → Bool → Bool → Option (Read Rule) → Scan
+conditionsScan n d i w none = notThere
+conditionsScan n d i w (some r) =
     record {
       ok = true;
       past = r .past;
       count = n + conditionsLength (r .value) d;
       filled = true;
       indexed = i && all indexTaken (r .value);
+      fitted = w && all fitsWidth (r .value);
       ascending = true;
     }
 
@@ -54,6 +55,7 @@ ruleScan (some r) =
       count = ruleLength (r .value);
       filled = hasConditions (r .value);
       indexed = all indexTaken (r .value);
+      fitted = all fitsWidth (r .value);
       ascending = true;
     }
 
@@ -61,18 +63,19 @@ ruleScan (some r) =
 unfoldable pub ruleFrom : ℕ → Scan → Scan
 ruleFrom n c =
     cond (c .ok)
-    (record { ok = true; past = c .past; count = c .count + 3; filled = not (eqb n 0); indexed = c .indexed; ascending = true })
+    (record { ok = true; past = c .past; count = c .count + 3; filled = not (eqb n 0); indexed = c .indexed; fitted = c .fitted; ascending = true })
     notThere
 
-unfoldable pub rulesScan : ℕ → Bool → Bool → Option (Read (List Rule)) → Scan
-rulesScan n f i none = notThere
-rulesScan n f i (some r) =
+unfoldable pub rulesScan : ℕ → Bool → Bool → Bool → Option (Read (List Rule)) → Scan
+rulesScan n f i w none = notThere
+rulesScan n f i w (some r) =
     record {
       ok = true;
       past = r .past;
       count = n + sum ruleLength (r .value);
       filled = f && all hasConditions (r .value);
       indexed = i && all (all indexTaken) (r .value);
+      fitted = w && all (all fitsWidth) (r .value);
       ascending = true;
     }
 
@@ -88,6 +91,7 @@ entryScan (some r) =
       count = entryLength (r .value);
       filled = all hasConditions (r .value .rules);
       indexed = all (all indexTaken) (r .value .rules);
+      fitted = all (all fitsWidth) (r .value .rules);
       ascending = true;
     }
 
@@ -95,7 +99,7 @@ entryScan (some r) =
 unfoldable pub entryFrom : ℕ → Scan → Scan
 entryFrom n c =
     cond (c .ok)
-    (record { ok = true; past = c .past; count = bodyOr n (c .count) + 2; filled = c .filled; indexed = c .indexed; ascending = true })
+    (record { ok = true; past = c .past; count = bodyOr n (c .count) + 2; filled = c .filled; indexed = c .indexed; fitted = c .fitted; ascending = true })
     notThere
 
 -- every number at least the one that is the least allowed where it stands
@@ -103,15 +107,16 @@ unfoldable pub ascendingFrom : ℕ → List Entry → Bool
 ascendingFrom least [] = true
 ascendingFrom least (e ∷ es) = leb least (e .number) && ascendingFrom (e .number + 1) es
 
-unfoldable pub entriesScan : ℕ → Bool → Bool → Bool → ℕ → Option (Read (List Entry)) → Scan
-entriesScan n f i a least none = notThere
-entriesScan n f i a least (some r) =
+unfoldable pub entriesScan : ℕ → Bool → Bool → Bool → Bool → ℕ → Option (Read (List Entry)) → Scan
+entriesScan n f i w a least none = notThere
+entriesScan n f i w a least (some r) =
     record {
       ok = true;
       past = r .past;
       count = n + sum entryLength (r .value);
       filled = f && all (λ (e : Entry). all hasConditions (e .rules)) (r .value);
       indexed = i && all (λ (e : Entry). all (all indexTaken) (e .rules)) (r .value);
+      fitted = w && all (λ (e : Entry). all (all fitsWidth) (e .rules)) (r .value);
       ascending = a && ascendingFrom least (r .value);
     }
 
@@ -120,14 +125,14 @@ unfoldable pub plainThere : List ℕ → ℕ → ℕ → Bool
 plainThere s n at = not (eqb n 0) && (leb (at + 8) (length s) && eqb (numberAt 4 s (at + 4)) 0)
 
 -- n entries from a place, the least number allowed there given, from what a turn found of the first of them
-unfoldable pub turnFrom : List ℕ → ℕ → Bool → Bool → Bool → Turn → Scan
-turnFrom s n f i a r =
+unfoldable pub turnFrom : List ℕ → ℕ → Bool → Bool → Bool → Bool → Turn → Scan
+turnFrom s n f i w a r =
     cond (r .ok)
-    (entriesScan (n + r .count) (f && r .filled) (i && r .indexed) (a && r .ascending) (r .least) (times (entryAt s) (r .left) (r .past)))
+    (entriesScan (n + r .count) (f && r .filled) (i && r .indexed) (w && r .fitted) (a && r .ascending) (r .least) (times (entryAt s) (r .left) (r .past)))
     notThere
 
 pub record Turned (s : List ℕ) (n at least : ℕ) (r : Turn) : Type 0 where
-  pub same : (c : ℕ) (f i a : Bool) → entriesScan c f i a least (times (entryAt s) n at) ≡ turnFrom s c f i a r
+  pub same : (c : ℕ) (f i w a : Bool) → entriesScan c f i w a least (times (entryAt s) n at) ≡ turnFrom s c f i w a r
   pub inside : r .ok ≡ true → (r .past ≤ length s) × (r .count + at ≤ r .past) × (r .left < n)
 
 -- the tests of the head
@@ -137,7 +142,7 @@ headTaken s = isThere (architectureOf (numberAt 4 s 0)) && (isAction (numberAt 4
 abbrev pub filterOr : ℕ → ℕ → ℕ
 filterOr n entries = cond (eqb n 0) 4 (entries + 5)
 
--- the whole: what decides the answers 1, 2, 4, 5, and the number of instructions
+-- the whole: what decides the answers 1, 2, 4, 5, 8, and the number of instructions
 unfoldable pub setScan : ℕ → Option RuleSet → Scan
 setScan size none = notThere
 setScan size (some rs) =
@@ -147,6 +152,7 @@ setScan size (some rs) =
       count = filterLength (rs .entries);
       filled = rulesFilled rs;
       indexed = indicesTaken rs;
+      fitted = widthsFit rs;
       ascending = ascending (rs .entries);
     }
 
@@ -154,7 +160,7 @@ setScan size (some rs) =
 unfoldable pub setFrom : ℕ → ℕ → Bool → Scan → Scan
 setFrom size n head c =
     cond (leb size 1048576) (cond (leb 16 size) (cond head (cond (c .ok) (cond (eqb (c .past) size)
-    (record { ok = true; past = size; count = filterOr n (c .count); filled = c .filled; indexed = c .indexed; ascending = c .ascending })
+    (record { ok = true; past = size; count = filterOr n (c .count); filled = c .filled; indexed = c .indexed; fitted = c .fitted; ascending = c .ascending })
     notThere) notThere) notThere) notThere) notThere
 
 -- what is refused, from the scan of the whole and whether both actions are one
@@ -164,7 +170,8 @@ refusalFrom c same =
     (cond same 3
     (cond (not (c .filled)) 4
     (cond (not (c .indexed)) 5
-    0)))
+    (cond (not (c .fitted)) 8
+    0))))
 
 -- what is said of a set, by the rule set that is read from it
 unfoldable pub judged : Option RuleSet → Judged

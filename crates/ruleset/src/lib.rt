@@ -7,18 +7,22 @@ ghost use lib.Dec.{eqb};
 ghost use lib.ListN.{length};
 ghost use Rattle.definitions.specs.Word.{numberAt};
 ghost use Rattle.definitions.specs.RuleSet.{isAction};
+ghost use Rattle.definitions.specs.Answer.{fitsWidth};
 ghost use Rattle.definitions.specs.Format.{architectureOf, widthOf, isThere, times, conditionAt, ruleAt, entryAt, read};
 ghost use Rattle.ruleset.specs.Scan.{notThere, Scanned, conditionsScan, ruleScan, rulesScan, bodyOr, entryScan, plainThere, Turned, entriesScan, headTaken, filterOr, setScan, refusalFrom, judged};
 use condition::condition_here;
+use definitions::Condition;
+use definitions::Width;
 
 // What a walk over a part found: whether it is of the format, the place behind it, how many instructions it has, whether all its rules
-// have conditions, all its indices are at most 5, and all its numbers ascend.
+// have conditions, all its indices are at most 5, all its values and masks are seen whole, and all its numbers ascend.
 pub struct Scan {
     pub ok: bool,
     pub past: usize,
     pub count: usize,
     pub filled: bool,
     pub indexed: bool,
+    pub fitted: bool,
     pub ascending: bool,
 }
 
@@ -31,6 +35,7 @@ fn not_there() -> Scan
         count: 0,
         filled: false,
         indexed: false,
+        fitted: false,
         ascending: false,
     }
 }
@@ -96,13 +101,25 @@ fn condition_there(s: &[u8], at: usize) -> bool
     operator == 5
 }
 
+// Whether a condition's value and mask have no more bits than it looks at.
+fn fits_width(q: Condition) -> bool
+    ensures { λ r. ⌜ r ≡ fitsWidth q ⌝ }
+{
+    let width = q.width;
+    match width {
+        Width::Dword => both(q.value <= 4294967295, q.mask <= 4294967295),
+        Width::Qword => true,
+    }
+}
+
 fn scan_conditions(s: &[u8], n: u32, from: usize) -> Scan
     requires { ⌜ (from ≤ length (now s)) × (length (now s) ≤ 1048576) ⌝ }
-    ensures { λ r. ⌜ Scanned (conditionsScan 0 1 true (times (conditionAt (now (s .entry))) n from)) from (length (now (s .entry))) r ⌝ }
+    ensures { λ r. ⌜ Scanned (conditionsScan 0 1 true true (times (conditionAt (now (s .entry))) n from)) from (length (now (s .entry))) r ⌝ }
 {
     let mut count: usize = 0;
     let mut distance: u8 = 1;
     let mut indexed = true;
+    let mut fitted = true;
     let mut at = from;
     let mut left = n;
     while left != 0 {
@@ -114,6 +131,7 @@ fn scan_conditions(s: &[u8], n: u32, from: usize) -> Scan
         count = count + step.count;
         distance = step.distance;
         indexed = both(indexed, q.index <= 5);
+        fitted = both(fitted, fits_width(q));
         at = at + 24;
         left = left - 1;
     }
@@ -123,6 +141,7 @@ fn scan_conditions(s: &[u8], n: u32, from: usize) -> Scan
         count: count,
         filled: true,
         indexed: indexed,
+        fitted: fitted,
         ascending: true,
     }
 }
@@ -146,17 +165,19 @@ fn scan_rule(s: &[u8], at: usize) -> Scan
         count: conditions.count + 3,
         filled: n != 0,
         indexed: conditions.indexed,
+        fitted: conditions.fitted,
         ascending: true,
     }
 }
 
 fn scan_rules(s: &[u8], n: u32, from: usize) -> Scan
     requires { ⌜ (from ≤ length (now s)) × (length (now s) ≤ 1048576) ⌝ }
-    ensures { λ r. ⌜ Scanned (rulesScan 0 true true (times (ruleAt (now (s .entry))) n from)) from (length (now (s .entry))) r ⌝ }
+    ensures { λ r. ⌜ Scanned (rulesScan 0 true true true (times (ruleAt (now (s .entry))) n from)) from (length (now (s .entry))) r ⌝ }
 {
     let mut count: usize = 0;
     let mut filled = true;
     let mut indexed = true;
+    let mut fitted = true;
     let mut at = from;
     let mut left = n;
     while left != 0 {
@@ -167,6 +188,7 @@ fn scan_rules(s: &[u8], n: u32, from: usize) -> Scan
         count = count + rule.count;
         filled = both(filled, rule.filled);
         indexed = both(indexed, rule.indexed);
+        fitted = both(fitted, rule.fitted);
         at = rule.past;
         left = left - 1;
     }
@@ -176,6 +198,7 @@ fn scan_rules(s: &[u8], n: u32, from: usize) -> Scan
         count: count,
         filled: filled,
         indexed: indexed,
+        fitted: fitted,
         ascending: true,
     }
 }
@@ -208,6 +231,7 @@ fn scan_entry(s: &[u8], at: usize) -> Scan
         count: body_length(n, rules.count) + 2,
         filled: rules.filled,
         indexed: rules.indexed,
+        fitted: rules.fitted,
         ascending: true,
     }
 }
@@ -230,6 +254,7 @@ pub struct Turn {
     pub count: usize,
     pub filled: bool,
     pub indexed: bool,
+    pub fitted: bool,
     pub ascending: bool,
 }
 
@@ -244,6 +269,7 @@ fn no_turn() -> Turn
         count: 0,
         filled: false,
         indexed: false,
+        fitted: false,
         ascending: false,
     }
 }
@@ -290,6 +316,7 @@ fn scan_plain(s: &[u8], n: u32, from: usize, first: u64) -> Turn
         count: count,
         filled: true,
         indexed: true,
+        fitted: true,
         ascending: ascending,
     }
 }
@@ -315,17 +342,19 @@ fn scan_turn(s: &[u8], left: u32, at: usize, least: u64) -> Turn
         count: entry.count,
         filled: entry.filled,
         indexed: entry.indexed,
+        fitted: entry.fitted,
         ascending: least <= number,
     }
 }
 
 fn scan_entries(s: &[u8], n: u32, from: usize) -> Scan
     requires { ⌜ (from ≤ length (now s)) × (length (now s) ≤ 1048576) ⌝ }
-    ensures { λ r. ⌜ Scanned (entriesScan 0 true true true 0 (times (entryAt (now (s .entry))) n from)) from (length (now (s .entry))) r ⌝ }
+    ensures { λ r. ⌜ Scanned (entriesScan 0 true true true true 0 (times (entryAt (now (s .entry))) n from)) from (length (now (s .entry))) r ⌝ }
 {
     let mut count: usize = 0;
     let mut filled = true;
     let mut indexed = true;
+    let mut fitted = true;
     let mut ascending = true;
     // the least number that may come next
     let mut least: u64 = 0;
@@ -339,6 +368,7 @@ fn scan_entries(s: &[u8], n: u32, from: usize) -> Scan
         count = count + turn.count;
         filled = both(filled, turn.filled);
         indexed = both(indexed, turn.indexed);
+        fitted = both(fitted, turn.fitted);
         ascending = both(ascending, turn.ascending);
         least = turn.least;
         at = turn.past;
@@ -350,6 +380,7 @@ fn scan_entries(s: &[u8], n: u32, from: usize) -> Scan
         count: count,
         filled: filled,
         indexed: indexed,
+        fitted: fitted,
         ascending: ascending,
     }
 }
@@ -436,6 +467,7 @@ fn scan_set(s: &[u8]) -> Scan
         count: filter_length(n, entries.count),
         filled: entries.filled,
         indexed: entries.indexed,
+        fitted: entries.fitted,
         ascending: entries.ascending,
     }
 }
@@ -467,11 +499,14 @@ fn refusal(s: &[u8], found: Scan) -> u32
     if !found.indexed {
         return 5;
     }
+    if !found.fitted {
+        return 8;
+    }
     0
 }
 
-// What is said of a set whatever it is for: 1 where it is not of the format, 2 to 5 where something in it is refused, else 0; and how
-// many instructions its filter has.
+// What is said of a set whatever it is for: 1 where it is not of the format, the smallest of 2 to 5 and 8 where something in it is
+// refused, else 0; and how many instructions its filter has.
 pub struct Judged {
     pub code: u32,
     pub count: usize,

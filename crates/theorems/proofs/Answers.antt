@@ -8,12 +8,12 @@ use Prim.Native.Nat.{ℕ, _*_, _≤_, _<_}
 use native.Mathlib.Omega.{arith}
 use lib.Dec.{eqb, leb, ltb}
 use lib.ListN.{length}
-use borrow.Author.Tests.{eqb-true, eqb-false, leb-false, ltb-false, not-false}
+use borrow.Author.Tests.{leb-false, ltb-false, not-false}
 use Rattle.definitions.specs.declared.Answer.{Answer}
 use Rattle.definitions.specs.RuleSet.{RuleSet}
 use Rattle.definitions.specs.Emitted.{emitted}
 use Rattle.definitions.specs.Format.{read}
-use Rattle.definitions.specs.Answer.{ascending, rulesFilled, indicesTaken, tooMany, answer, refusal, answerWith, answerRead, answerOf}
+use Rattle.definitions.specs.Answer.{ascending, rulesFilled, indicesTaken, widthsFit, tooMany, answer, codeWith, refusal, answerWith, answerRead, answerOf}
 
 pub record Compiles (set : List ℕ) (room : ℕ) (r : Answer) (rs : RuleSet) : Type 0 where
   pub from : read set ≡ some rs
@@ -23,29 +23,49 @@ pub record Compiles (set : List ℕ) (room : ℕ) (r : Answer) (rs : RuleSet) : 
   pub said : r ≡ answer 0 (length (emitted rs))
 
 -- a test that led to another number than 0
-past : {A : Type 0} (f : A → ℕ) (t : Bool) (a b : A) → (f a ≡ 0 → ⊥) → f (cond t a b) ≡ 0 → (t ≡ false) × (f b ≡ 0)
-past f true a b h e = absurd (h e)
-past f false a b h e = (refl, e)
+past : (t : Bool) (a b : ℕ) → (a ≡ 0 → ⊥) → cond t a b ≡ 0 → (t ≡ false) × (b ≡ 0)
+past true a b h e = absurd (h e)
+past false a b h e = (refl, e)
+
+-- no number applies
+record Nothing (n : ℕ) (rs : RuleSet) (room : ℕ) : Type 0 where
+  up : ascending (rs .entries) ≡ true
+  differ : eqb (rs .mismatch) (rs .onMatch) ≡ false
+  filled : rulesFilled rs ≡ true
+  indexed : indicesTaken rs ≡ true
+  short : leb tooMany n ≡ false
+  fits : ltb room (8 * n) ≡ false
+  whole : widthsFit rs ≡ true
+
+nothing-applies : (n : ℕ) (rs : RuleSet) (room : ℕ) → codeWith n rs room ≡ 0 → Nothing n rs room
+unfolding codeWith
+nothing-applies n rs room e =
+    let w2 = past (not (ascending (rs .entries))) 2 _ (λ q. omega arith) e in
+    let w3 = past (eqb (rs .mismatch) (rs .onMatch)) 3 _ (λ q. omega arith) (w2 .1) in
+    let w4 = past (not (rulesFilled rs)) 4 _ (λ q. omega arith) (w3 .1) in
+    let w5 = past (not (indicesTaken rs)) 5 _ (λ q. omega arith) (w4 .1) in
+    let w6 = past (leb tooMany n) 6 _ (λ q. omega arith) (w5 .1) in
+    let w7 = past (ltb room (8 * n)) 7 _ (λ q. omega arith) (w6 .1) in
+    let w8 = past (not (widthsFit rs)) 8 0 (λ q. omega arith) (w7 .1) in
+    record {
+      up = not-false (ascending (rs .entries)) (w2 .0);
+      differ = w3 .0;
+      filled = not-false (rulesFilled rs) (w4 .0);
+      indexed = not-false (indicesTaken rs) (w5 .0);
+      short = w6 .0;
+      fits = w7 .0;
+      whole = not-false (widthsFit rs) (w8 .0);
+    }
 
 pub indices-taken : (rs : RuleSet) → refusal rs ≡ 0 → indicesTaken rs ≡ true
-unfolding refusal
-indices-taken rs e =
-    let w2 = past (λ n. n) (not (ascending (rs .entries))) 2 _ (λ q. omega arith) e in
-    let w3 = past (λ n. n) (eqb (rs .mismatch) (rs .onMatch)) 3 _ (λ q. omega arith) (w2 .1) in
-    let w4 = past (λ n. n) (not (rulesFilled rs)) 4 _ (λ q. omega arith) (w3 .1) in
-    let w5 = past (λ n. n) (not (indicesTaken rs)) 5 0 (λ q. omega arith) (w4 .1) in
-    not-false (indicesTaken rs) (w5 .0)
+indices-taken rs e = nothing-applies 0 rs 0 e .indexed
+
+nothing-refused : (n : ℕ) (rs : RuleSet) (room : ℕ) → Nothing n rs room → refusal rs ≡ 0
+unfolding codeWith
+nothing-refused n rs room z = rw (z .up, z .differ, z .filled, z .indexed, z .whole)
 
 abbrev code : Answer → ℕ
 code r = r .code
-
--- the answer to a refusal is not 0
-nothing-refused : (k : ℕ) (rest : Answer) → (cond (eqb k 0) rest (answer k 0)) .code ≡ 0 → (k ≡ 0) × (rest .code ≡ 0)
-nothing-refused k rest e = go (eqb k 0) refl
-  where
-    go : (t : Bool) → eqb k 0 ≡ t → (k ≡ 0) × (rest .code ≡ 0)
-    go true q = (eqb-true k 0 q, rw q at e)
-    go false q = absurd (eqb-false k 0 q (rw q at e))
 
 record Answered (n : ℕ) (rs : RuleSet) (room : ℕ) : Type 0 where
   nothing : refusal rs ≡ 0
@@ -56,14 +76,12 @@ record Answered (n : ℕ) (rs : RuleSet) (room : ℕ) : Type 0 where
 answered : (n : ℕ) (rs : RuleSet) (room : ℕ) → answerWith n rs room .code ≡ 0 → Answered n rs room
 unfolding answerWith
 answered n rs room e =
-    let w5 = nothing-refused (refusal rs) _ e in
-    let w6 = past code (leb tooMany n) (answer 6 n) _ (λ q. omega arith) (w5 .1) in
-    let w7 = past code (ltb room (8 * n)) (answer 7 n) (answer 0 n) (λ q. omega arith) (w6 .1) in
+    let z = nothing-applies n rs room e in
     record {
-      nothing = w5 .0;
-      short = leb-false tooMany n (w6 .0);
-      fits = ltb-false room (8 * n) (w7 .0);
-      said = rw (w5 .0, w6 .0, w7 .0);
+      nothing = nothing-refused n rs room z;
+      short = leb-false tooMany n (z .short);
+      fits = ltb-false room (8 * n) (z .fits);
+      said = rw e;
     }
 
 by-read : (set : List ℕ) (room : ℕ) (r : Answer) (x : Option RuleSet) → read set ≡ x → r ≡ answerRead x room → r .code ≡ 0 → (rs : RuleSet) × Compiles set room r rs

@@ -1,10 +1,11 @@
 -- The theorems of rule sets that are written and read part by part, as statements. Their proofs stand beside the code: in
 -- crates/writers/proofs/Made.antt and crates/readers/proofs/Back.antt.
-use Prim.Native.Nat.{ℕ}
+use Prim.Native.Nat.{ℕ, _*_}
 use mathlib.Core.Path.{_≡_}
-use mathlib.Core.Bool.{Bool, true}
+use mathlib.Core.Bool.{Bool, true, cond}
 use mathlib.Core.List.{List, [], _∷_}
 use mathlib.Core.Option.{Option, some}
+use lib.Dec.{leb, ltb}
 use lib.ListN.{length, take}
 use Rattle.definitions.specs.declared.Condition.{Condition}
 use Rattle.definitions.specs.declared.Writer.{Writer}
@@ -12,7 +13,7 @@ use Rattle.definitions.specs.declared.Cursor.{Cursor}
 use Rattle.definitions.specs.RuleSet.{Rule, Entry, RuleSet}
 use Rattle.definitions.specs.Emitted.{emitted}
 use Rattle.definitions.specs.Format.{InRange, encode, read}
-use Rattle.definitions.specs.Answer.{ascending, rulesFilled, indicesTaken, answerFitting, answerOf}
+use Rattle.definitions.specs.Answer.{ascending, rulesFilled, indicesTaken, widthsFit, tooMany, answer, answerOf}
 use Rattle.definitions.specs.Parts.{lastRules}
 use Rattle.definitions.specs.Writers.{stateFits, Added, Made}
 use Rattle.definitions.specs.Readers.{headOf, entryOf, ruleOf, comparedOf, Left, HeadGiven, EntryGiven, RuleGiven, ConditionGiven}
@@ -31,13 +32,15 @@ ReadBack = (rs : RuleSet) (out : List ℕ) (w : Writer) → Made rs out w → re
 abbrev pub OfTheFormat : Type 0
 OfTheFormat = (rs : RuleSet) (out : List ℕ) (w : Writer) → Made rs out w → (room : ℕ) → answerOf (take (w .end) out) room .code ≡ 1 → ⊥
 
--- where the numbers were listed in ascending order, the actions differ, no rule was left without conditions and no index is above 5,
--- they compile, unless the filter is too long or the buffer too short
+-- where the numbers were listed in ascending order, the actions differ, no rule was left without conditions, no index is above 5 and
+-- every dword condition's value and mask have 32 bits, they compile, unless the filter is too long or the buffer too short
 abbrev pub Compiling : Type 0
 Compiling =
     (rs : RuleSet) (out : List ℕ) (w : Writer) → Made rs out w
-    → ascending (rs .entries) ≡ true → (rs .mismatch ≡ rs .onMatch → ⊥) → rulesFilled rs ≡ true → indicesTaken rs ≡ true
-    → (room : ℕ) → answerOf (take (w .end) out) room ≡ answerFitting (length (emitted rs)) room
+    → ascending (rs .entries) ≡ true → (rs .mismatch ≡ rs .onMatch → ⊥) → rulesFilled rs ≡ true → indicesTaken rs ≡ true → widthsFit rs ≡ true
+    → (room : ℕ)
+    → answerOf (take (w .end) out) room
+    ≡ answer (cond (leb tooMany (length (emitted rs))) 6 (cond (ltb room (8 * length (emitted rs))) 7 0)) (length (emitted rs))
 
 -- a state that calls have made fits its buffer, says that no number is listed only where none is, and that no rule is open only where
 -- the number listed last has none

@@ -12,7 +12,7 @@ use Rattle.definitions.specs.declared.Writer.{Writer}
 use Rattle.definitions.specs.RuleSet.{Entry, RuleSet}
 use Rattle.definitions.specs.Emitted.{emitted}
 use Rattle.definitions.specs.Format.{joined, encodeEntry, encode}
-use Rattle.definitions.specs.Answer.{ascending, rulesFilled, indicesTaken, tooMany, answer, refusal, answerFitting, answerWith, answerOf}
+use Rattle.definitions.specs.Answer.{ascending, rulesFilled, indicesTaken, widthsFit, tooMany, answer, codeWith, countWith, answerWith, answerOf}
 use Rattle.definitions.specs.Parts.{lastRules}
 use Rattle.definitions.specs.Writers.{RuleAt, noRule, lastRule, EntryAt, noEntry, lastEntry, Holds, stateFits, Made, begun, taken, refused}
 use Rattle.theorems.specs.Written.{Spelled, ReadBack, OfTheFormat, Compiling, Fitting, NeverStarted}
@@ -46,41 +46,35 @@ pub read-back : ReadBack
 read-back rs out w made = let form = made-holds made .form in rw (← form .spelled) (written-read rs (form .ranged))
 
 -- whichever way a test goes, the number is not 1
-not-one : {A : Type 0} (f : A → ℕ) (t : Bool) (a b : A) → (f a ≡ 1 → ⊥) → (f b ≡ 1 → ⊥) → f (cond t a b) ≡ 1 → ⊥
-not-one f true a b p q = p
-not-one f false a b p q = q
-
-refusal-not-one : (rs : RuleSet) → refusal rs ≡ 1 → ⊥
-unfolding refusal
-refusal-not-one rs =
-    not-one (λ n. n) (not (ascending (rs .entries))) 2 _ (λ e. omega arith)
-    (not-one (λ n. n) (eqb (rs .mismatch) (rs .onMatch)) 3 _ (λ e. omega arith)
-    (not-one (λ n. n) (not (rulesFilled rs)) 4 _ (λ e. omega arith)
-    (not-one (λ n. n) (not (indicesTaken rs)) 5 0 (λ e. omega arith) (λ e. omega arith))))
-
-abbrev code : Answer → ℕ
-code r = r .code
+not-one : (t : Bool) (a b : ℕ) → (a ≡ 1 → ⊥) → (b ≡ 1 → ⊥) → cond t a b ≡ 1 → ⊥
+not-one true a b p q = p
+not-one false a b p q = q
 
 never-one : (n : ℕ) (rs : RuleSet) (room : ℕ) → answerWith n rs room .code ≡ 1 → ⊥
-unfolding answerWith
+unfolding answerWith codeWith
 never-one n rs room =
-    not-one code (eqb (refusal rs) 0) (answerFitting n room) (answer (refusal rs) 0)
-    (not-one code (leb tooMany n) (answer 6 n) _ (λ e. omega arith)
-    (not-one code (ltb room (8 * n)) (answer 7 n) (answer 0 n) (λ e. omega arith) (λ e. omega arith)))
-    (refusal-not-one rs)
+    not-one (not (ascending (rs .entries))) 2 _ (λ e. omega arith)
+    (not-one (eqb (rs .mismatch) (rs .onMatch)) 3 _ (λ e. omega arith)
+    (not-one (not (rulesFilled rs)) 4 _ (λ e. omega arith)
+    (not-one (not (indicesTaken rs)) 5 _ (λ e. omega arith)
+    (not-one (leb tooMany n) 6 _ (λ e. omega arith)
+    (not-one (ltb room (8 * n)) 7 _ (λ e. omega arith)
+    (not-one (not (widthsFit rs)) 8 0 (λ e. omega arith) (λ e. omega arith)))))))
 
 pub of-the-format : OfTheFormat
 unfolding answerOf
 of-the-format rs out w made room e = never-one (length (emitted rs)) rs room (rw (read-back rs out w made) at e)
 
-nothing-refused : (rs : RuleSet) → ascending (rs .entries) ≡ true → (rs .mismatch ≡ rs .onMatch → ⊥) → rulesFilled rs ≡ true → indicesTaken rs ≡ true
-    → refusal rs ≡ 0
-unfolding refusal
-nothing-refused rs up differ filled indexed = rw (up, ne-eqb (rs .mismatch) (rs .onMatch) differ, filled, indexed)
+counted : (n room : ℕ) (a b : Bool) → answer (cond a 6 (cond b 7 0)) (countWith (cond a 6 (cond b 7 0)) n) ≡ answer (cond a 6 (cond b 7 0)) n
+counted n room true b = refl
+counted n room false true = refl
+counted n room false false = refl
 
 pub compiling : Compiling
-unfolding answerOf answerWith
-compiling rs out w made up differ filled indexed room = rw (read-back rs out w made, nothing-refused rs up differ filled indexed)
+unfolding answerOf answerWith codeWith
+compiling rs out w made up differ filled indexed whole room =
+    rw (read-back rs out w made, up, ne-eqb (rs .mismatch) (rs .onMatch) differ, filled, indexed, whole)
+    (counted (length (emitted rs)) room (leb tooMany (length (emitted rs))) (ltb room (8 * length (emitted rs))))
 
 -- ---- the state fits
 

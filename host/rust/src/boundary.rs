@@ -12,6 +12,7 @@ pub(crate) const EMPTY_RULE: u32 = 4;
 pub(crate) const INDEX_ABOVE_FIVE: u32 = 5;
 pub(crate) const TOO_MANY_INSTRUCTIONS: u32 = 6;
 pub(crate) const BUFFER_TOO_SHORT: u32 = 7;
+pub(crate) const MORE_THAN_32_BITS: u32 = 8;
 
 // refusals of a writer
 pub(crate) const NO_ROOM: u32 = 3;

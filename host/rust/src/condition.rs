@@ -65,17 +65,22 @@ pub struct Condition {
 }
 
 impl Condition {
-    /// The argument's index is 0 to 5. Of a value, or a mask, that is compared as a [`Width::Dword`] only the low 32 bits count.
+    /// The argument's index is 0 to 5. A value, or a mask, that is compared as a [`Width::Dword`] has at most 32 bits: what it has above
+    /// them would never be looked at.
     ///
     /// ```
     /// use callfilter::{Condition, Error, Operator, Width};
     ///
     /// let error = Condition::new(6, Width::Dword, Operator::Eq, 1).unwrap_err();
     /// assert_eq!(error.to_string(), "there is no argument 6: a call has the arguments 0 to 5");
+    /// assert_eq!(Condition::new(0, Width::Dword, Operator::Eq, 1 << 32), Err(Error::MoreThan32Bits(1 << 32)));
     /// ```
     pub fn new(index: u8, width: Width, operator: Operator, value: u64) -> Result<Condition, Error> {
         if index > 5 {
             return Err(Error::IndexAboveFive(index));
+        }
+        if let Some(number) = [value, operator.mask()].into_iter().find(|number| width.low_bits(*number) != *number) {
+            return Err(Error::MoreThan32Bits(number));
         }
         Ok(Condition { index, width, operator, value })
     }

@@ -30,6 +30,8 @@ pub enum Error {
     AlwaysAndByRules(u32),
     /// A condition looks at an argument that calls do not have.
     IndexAboveFive(u8),
+    /// A dword condition's value, or its mask, has more than the 32 bits that it looks at.
+    MoreThan32Bits(u64),
     /// The filter would have this many instructions.
     TooManyInstructions(u32),
     /// The set would have more than 1 MiB as bytes.
@@ -61,6 +63,9 @@ impl fmt::Display for Error {
                 write!(to, "call {call} is listed without rules, to match always, and once more with rules: keep one of the two")
             }
             Error::IndexAboveFive(index) => write!(to, "there is no argument {index}: a call has the arguments 0 to 5"),
+            Error::MoreThan32Bits(number) => {
+                write!(to, "a dword condition looks at 32 bits, and {number:#x} has more: compare a qword, or cut the number")
+            }
             Error::TooManyInstructions(count) => {
                 write!(to, "the filter would have {count} instructions, and at most 4096 are compiled: list fewer calls or conditions")
             }

@@ -10,7 +10,7 @@ pub(crate) fn set_of(bytes: &[u8]) -> Result<RuleSet, Error> {
     let answer = boundary::compile(bytes, &mut []);
     match answer.code {
         // no room for a filter, or none that is short enough, says nothing against the set
-        boundary::TOO_MANY_INSTRUCTIONS | boundary::BUFFER_TOO_SHORT => Parts::read(bytes).typed().ok_or(Error::NotOfTheFormat),
+        boundary::TOO_MANY_INSTRUCTIONS | boundary::BUFFER_TOO_SHORT => Parts::read(bytes).typed(),
         _ => Err(refusal(answer, bytes)),
     }
 }
@@ -25,7 +25,7 @@ pub(crate) fn refusal(answer: Answer, set: &[u8]) -> Error {
         boundary::NOT_ASCENDING => parts.not_ascending(),
         boundary::EQUAL_ACTIONS => Action::from_word(parts.on_match).map(Error::EqualActions),
         boundary::EMPTY_RULE => parts.empty_rule(),
-        boundary::INDEX_ABOVE_FIVE => parts.index_above_five(),
+        boundary::INDEX_ABOVE_FIVE | boundary::MORE_THAN_32_BITS => parts.typed().err(),
         _ => None,
     };
     found.unwrap_or(Error::NotOfTheFormat)
@@ -63,28 +63,26 @@ impl Parts {
         })
     }
 
-    fn index_above_five(&self) -> Option<Error> {
-        let mut conditions = self.entries.iter().flat_map(|entry| entry.rules.iter().flatten());
-        conditions.find(|condition| condition.index > 5).map(|condition| Error::IndexAboveFive(condition.index))
-    }
-
-    fn typed(&self) -> Option<RuleSet> {
-        let actions = (Action::from_word(self.mismatch)?, Action::from_word(self.on_match)?);
-        let mut set = RuleSet::new(Architecture::from_number(self.architecture)?, actions.0, actions.1);
+    /// Its error is the first condition's that cannot be made.
+    fn typed(&self) -> Result<RuleSet, Error> {
+        let known = (Architecture::from_number(self.architecture), Action::from_word(self.mismatch), Action::from_word(self.on_match));
+        let (Some(architecture), Some(mismatch), Some(on_match)) = known else { return Err(Error::NotOfTheFormat) };
+        let mut set = RuleSet::new(architecture, mismatch, on_match);
         for entry in &self.entries {
             let mut listed = set.call(entry.number);
             for rule in &entry.rules {
                 listed = listed.rule(&typed_rule(rule)?);
             }
         }
-        Some(set)
+        Ok(set)
     }
 }
 
-fn typed_rule(rule: &[Compared]) -> Option<Rule> {
+fn typed_rule(rule: &[Compared]) -> Result<Rule, Error> {
     let typed = |read: &Compared| {
-        let operator = Operator::from_number(read.operator, read.mask)?;
-        Condition::new(read.index, Width::from_number(read.width)?, operator, read.value).ok()
+        let known = (Width::from_number(read.width), Operator::from_number(read.operator, read.mask));
+        let (Some(width), Some(operator)) = known else { return Err(Error::NotOfTheFormat) };
+        Condition::new(read.index, width, operator, read.value)
     };
     rule.iter().map(typed).collect()
 }

@@ -103,8 +103,8 @@ fn a_set_is_told_rule_by_rule() -> Result<(), Error> {
     let mut set = RuleSet::new(Architecture::Aarch64, Action::KillThread, Action::Trace(9));
     let low = |operator, value| Condition::new(0, Width::Dword, operator, value);
     let all = |operator, value| Condition::new(5, Width::Qword, operator, value);
-    set.call(12).rule(&[low(Operator::Eq, (1 << 32) + 7)?, all(Operator::Ne, 1 << 32)?]);
-    set.call(12).rule(&[low(Operator::MaskedEq(u64::MAX), u64::MAX)?]).rule(&[all(Operator::MaskedEq(6), 255)?]);
+    set.call(12).rule(&[low(Operator::Eq, 7)?, all(Operator::Ne, 1 << 32)?]);
+    set.call(12).rule(&[low(Operator::MaskedEq(0xffff_ffff), 0xffff_ffff)?]).rule(&[all(Operator::MaskedEq(6), 255)?]);
     set.call(13).rule(&[low(Operator::Ge, 1)?, low(Operator::Gt, 2)?]).rule(&[low(Operator::Le, 3)?, low(Operator::Lt, 4)?]);
     assert_eq!(
         set.to_string(),

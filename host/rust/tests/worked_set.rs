@@ -77,9 +77,13 @@ fn every_operator_and_width_compares_as_it_says() {
     let mask = 0x8000_0001_8000_0003;
     for width in [Width::Dword, Width::Qword] {
         let cut = |number: u64| if width == Width::Dword { number & 0xffff_ffff } else { number };
-        for operator in [Operator::Eq, Operator::Ne, Operator::Ge, Operator::Gt, Operator::Le, Operator::Lt, Operator::MaskedEq(mask)] {
+        for operator in [Operator::Eq, Operator::Ne, Operator::Ge, Operator::Gt, Operator::Le, Operator::Lt, Operator::MaskedEq(cut(mask))] {
             for (value, argument) in numbers.iter().flat_map(|value| numbers.iter().map(move |argument| (*value, *argument))) {
-                let (one, two) = (cut(argument), cut(value));
+                if cut(value) != value {
+                    assert_eq!(Condition::new(5, width, operator, value), Err(Error::MoreThan32Bits(value)));
+                    continue;
+                }
+                let (one, two) = (cut(argument), value);
                 let holds = match operator {
                     Operator::Eq => one == two,
                     Operator::Ne => one != two,

@@ -99,6 +99,20 @@ fn an_argument_that_calls_have_not_is_named() {
 }
 
 #[test]
+fn a_dword_condition_of_more_than_32_bits_is_named() {
+    // the first condition's value, of call 5: a dword
+    for (place, number) in [(48, 1 << 32 | 1), (51, 1 << 56 | 1)] {
+        let mut bytes = with_rules();
+        bytes[place] = 1;
+        assert_eq!(both(&bytes), Error::MoreThan32Bits(number));
+    }
+    for width in [Width::Dword, Width::Qword] {
+        let made = Condition::new(0, width, Operator::MaskedEq(1 << 33), 0);
+        assert_eq!(made.err(), (width == Width::Dword).then_some(Error::MoreThan32Bits(1 << 33)));
+    }
+}
+
+#[test]
 fn a_filter_that_is_too_long_is_counted() {
     let mut set = plain();
     for number in 0..818 {

@@ -13,7 +13,7 @@ use Rattle.definitions.specs.declared.Answer.{Answer}
 use Rattle.definitions.specs.Word.{bytesOf, numberOf, numberAt}
 use Rattle.definitions.specs.RuleSet.{x86-64, aarch64, architectureWord, oneOf, isAction, Rule, Entry, RuleSet}
 use Rattle.definitions.specs.Format.{architectureNumber, widthNumber, operatorNumber, encodeCondition, encodeRule, encodeEntry, encode, architectureOf, widthOf, operatorOf, maskTaken, times, conditionAt, ruleAt, entryAt, read}
-use Rattle.definitions.specs.Answer.{ascending, all, refusal, answerWith, answerOf}
+use Rattle.definitions.specs.Answer.{ascending, all, codeWith, answerWith, answerOf}
 use Rattle.definitions.specs.Emitted.{highTests, lowTests, highPart, lowPart, conditionCode, helpers, near, stepCode, stepDistance, conditionsCode, distance, ruleCode, rulesCode, bodyCode, entryCode, entriesCode, numbersCode, emitted}
 use Rattle.definitions.proofs.Examples.RuleSet.{compared, allow, errno}
 
@@ -92,17 +92,24 @@ table =
     ∷ row (listing (errno 1) (ruled (compared Eq Dword 6 0 0 ∷ []))) 0 5 0
     -- 7
     ∷ row (listing (errno 1) []) 31 7 4
-    -- the smallest of several: 2 before 3, 3 before 4, 4 before 5, 5 before 7
+    -- 8: a dword value or mask of 33 bits; one of 32 bits is taken, and so is any of a qword condition
+    ∷ row (listing (errno 1) (ruled (compared Eq Dword 5 (2 ^ 32) 0 ∷ []))) 120 8 0
+    ∷ row (listing (errno 1) (ruled (compared MaskedEq Dword 0 0 (2 ^ 32) ∷ []))) 120 8 0
+    ∷ row (listing (errno 1) (ruled (compared MaskedEq Dword 0 (2 ^ 32 - 1) (2 ^ 32 - 1) ∷ []))) 120 0 13
+    ∷ row (listing (errno 1) (ruled (compared MaskedEq Qword 0 (2 ^ 64 - 1) (2 ^ 64 - 1) ∷ []))) 128 0 16
+    -- the smallest of several: 2 before 3, 3 before 4, 4 before 5, 5 before 7, 7 before 8
     ∷ row (listing allow (plain 1 ∷ plain 1 ∷ [])) 0 2 0
     ∷ row (listing allow (ruled [])) 0 3 0
     ∷ row (listing (errno 1) (record { number = 1; rules = (compared Eq Dword 6 0 0 ∷ []) ∷ [] ∷ [] } ∷ [])) 0 4 0
+    ∷ row (listing (errno 1) (ruled (compared Eq Dword 6 (2 ^ 32) 0 ∷ []))) 0 5 0
+    ∷ row (listing (errno 1) (ruled (compared Eq Dword 5 (2 ^ 32) 0 ∷ []))) 95 7 12
     ∷ []
 
 abbrev rowHolds : Row → Bool
 rowHolds r = let a = answerOf (r .bytes) (r .room) in eqb (a .code) (r .code) && eqb (a .count) (r .count)
 
 table-holds : all rowHolds table ≡ true
-unfolding answerOf answerWith refusal ascending read entryAt ruleAt conditionAt times maskTaken operatorOf widthOf architectureOf isAction oneOf numberAt numberOf encode encodeEntry encodeRule encodeCondition bytesOf architectureNumber widthNumber operatorNumber architectureWord emitted numbersCode entriesCode entryCode bodyCode rulesCode ruleCode conditionsCode distance stepCode stepDistance helpers near conditionCode highPart lowPart highTests lowTests
+unfolding answerOf answerWith codeWith ascending read entryAt ruleAt conditionAt times maskTaken operatorOf widthOf architectureOf isAction oneOf numberAt numberOf encode encodeEntry encodeRule encodeCondition bytesOf architectureNumber widthNumber operatorNumber architectureWord emitted numbersCode entriesCode entryCode bodyCode rulesCode ruleCode conditionsCode distance stepCode stepDistance helpers near conditionCode highPart lowPart highTests lowTests
 table-holds = refl
 
 -- 6: the limit itself, by the number of instructions alone
@@ -111,5 +118,5 @@ smallest = record { architecture = x86-64; mismatch = errno 1; onMatch = allow; 
 
 limit : (answerWith 4096 smallest 40000 ≡ record { code = 0; count = 4096 }) × (answerWith 4097 smallest 40000 ≡ record { code = 6; count = 4097 })
     × (answerWith 4097 smallest 0 ≡ record { code = 6; count = 4097 }) × (answerWith 4096 smallest 32767 ≡ record { code = 7; count = 4096 })
-unfolding answerWith refusal ascending
+unfolding answerWith codeWith ascending
 limit = (refl, refl, refl, refl)

@@ -26,8 +26,11 @@ returns-4 c = rw (not-false (c .before .before .before .before .before .before .
 
 returns-5 : tie.Need-returns-5
 unfolding refusalFrom
-returns-5 c = rw (not-false (c .before .before .before .before .before .before .before .before .before .args .found .ascending) (c .before .before .before .before .before .before .if1 .left), ← c .before .before .before .before .before .same-actions .ensures, c .before .before .before .before .if2 .left, not-false (c .before .before .before .before .before .before .before .before .before .args .found .filled) (c .before .before .if3 .left), not-false (c .before .before .before .before .before .before .before .before .before .args .found .indexed) (c .if4 .left))
+returns-5 c = rw (not-false (c .before .before .before .before .before .before .before .before .before .before .before .args .found .ascending) (c .before .before .before .before .before .before .before .before .if1 .left), ← c .before .before .before .before .before .before .before .same-actions .ensures, c .before .before .before .before .before .before .if2 .left, not-false (c .before .before .before .before .before .before .before .before .before .before .before .args .found .filled) (c .before .before .before .before .if3 .left), not-false (c .before .before .before .before .before .before .before .before .before .before .before .args .found .indexed) (c .before .before .if4 .left), not-true (c .before .before .before .before .before .before .before .before .before .before .before .args .found .fitted) (c .if5 .taken))
+
+returns-6 : tie.Need-returns-6
+unfolding refusalFrom
+returns-6 c = rw (not-false (c .before .before .before .before .before .before .before .before .before .before .before .args .found .ascending) (c .before .before .before .before .before .before .before .before .if1 .left), ← c .before .before .before .before .before .before .before .same-actions .ensures, c .before .before .before .before .before .before .if2 .left, not-false (c .before .before .before .before .before .before .before .before .before .before .before .args .found .filled) (c .before .before .before .before .if3 .left), not-false (c .before .before .before .before .before .before .before .before .before .before .before .args .found .indexed) (c .before .before .if4 .left), not-false (c .before .before .before .before .before .before .before .before .before .before .before .args .found .fitted) (c .if5 .left))
 
 pub refusal-spec : {M : Type 1} → statement M
-refusal-spec =
-    tie.close (tie.spec returns same-actions-requires returns-2 returns-3 returns-4 returns-5)
+refusal-spec = tie.close (tie.spec returns same-actions-requires returns-2 returns-3 returns-4 returns-5 returns-6)

@@ -16,13 +16,13 @@ use Rattle.ruleset.proofs.scan_plain.Tie as tie
 abbrev Inv-loop : tie.InvT-loop
 Inv-loop s n from first ascending₀ count₀ least₀ at₀ left₀ ascending count least at left =
     (at + 8 * left ≡ from + 8 * n) × (count + 5 * left ≡ 5 * n) × (at ≤ length s) × (left ≤ n)
-    × ((c : ℕ) (f i a : Bool) → entriesScan c f i a first (times (entryAt s) n from) ≡ entriesScan (c + count) f i (a && ascending) least (times (entryAt s) left at))
+    × ((c : ℕ) (f i w a : Bool) → entriesScan c f i w a first (times (entryAt s) n from) ≡ entriesScan (c + count) f i w (a && ascending) least (times (entryAt s) left at))
 
 abbrev μ-loop : tie.MeasureT-loop
 μ-loop s n from first ascending₀ count₀ least₀ at₀ left₀ ascending count least at left = left
 
 loop-holds : tie.Need-loop-holds Inv-loop μ-loop
-loop-holds c = (refl, omega arith, omega arith, omega arith, λ k f i a. rw (add-zero k, and-true a))
+loop-holds c = (refl, omega arith, omega arith, omega arith, λ k f i w a. rw (add-zero k, and-true a))
 
 plain-there-requires : tie.Need-plain-there-requires Inv-loop μ-loop
 plain-there-requires c κs = search needs
@@ -63,7 +63,7 @@ loop-again c =
       omega (arith, p .0, inv),
       p .1,
       omega (arith, inv),
-      λ k f i a. inv .4 k f i a ∙ plain-turn _ _ _ _ _ _ _ _ there ∙ rw (add-assoc k, and-assoc a, ← c .before .number-at .ensures .0, ← c .both .ensures),
+      λ k f i w a. inv .4 k f i w a ∙ plain-turn _ _ _ _ _ _ _ _ _ there ∙ rw (add-assoc k, and-assoc a, ← c .before .number-at .ensures .0, ← c .both .ensures),
     )
 
 returns : tie.Need-returns Inv-loop μ-loop
@@ -72,7 +72,7 @@ returns c =
     let inv = c .before .before .loop .inv in
     let stop = sym (c .before .plain-there .ensures) ∙ c .if1 .left in
     record {
-      same = λ k f i a. inv .4 k f i a ∙ rw (and-true f, and-true i);
+      same = λ k f i w a. inv .4 k f i w a ∙ rw (and-true f, and-true i, and-true w);
       inside = λ e. (inv .2, omega (arith, inv), plain-passed _ _ _ _ _ (c .before .before .before .before .pre .2) stop (inv .0) (inv .3));
     }
 

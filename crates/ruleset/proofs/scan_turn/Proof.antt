@@ -28,7 +28,7 @@ returns-2 : tie.Need-returns-2
 returns-2 c =
     let none = ok-of (c .before .before .before .scan-entry .ensures .same) (not-true (c .before .before .before .scan-entry .result .ok) (c .before .if2 .taken)) in
     record {
-      same = λ k f i a. entries-stop _ _ _ k f i a _ (c .before .before .before .before .before .before .before .pre .2) none ∙ sym (turn-stopped _ k f i a _ (c .no-turn .ensures));
+      same = λ k f i w a. entries-stop _ _ _ k f i w a _ (c .before .before .before .before .before .before .before .pre .2) none ∙ sym (turn-stopped _ k f i w a _ (c .no-turn .ensures));
       inside = λ e. absurd (let z : _≡_ {A = ℕ} 0 1 = cc (c .no-turn .ensures) in omega arith);
     }
 
@@ -48,7 +48,7 @@ returns-3 c =
     let ok = not-false (c .before .before .before .scan-entry .result .ok) (c .before .if2 .left) in
     let in-bytes = c .before .before .before .scan-entry .ensures .inside ok in
     record {
-      same = λ k f i a. entries-turn _ _ _ k f i a _ (c .before .before .before .scan-entry .result) (c .before .before .before .before .before .before .before .pre .2) (c .before .before .before .scan-entry .ensures .same) ok ∙ rw (← c .number-at .ensures .0);
+      same = λ k f i w a. entries-turn _ _ _ k f i w a _ (c .before .before .before .scan-entry .result) (c .before .before .before .before .before .before .before .pre .2) (c .before .before .before .scan-entry .ensures .same) ok ∙ rw (← c .number-at .ensures .0);
       inside = λ e. (in-bytes .0, in-bytes .1, omega (arith, c .before .before .before .before .before .before .before .pre .2));
     }
 
