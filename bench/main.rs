@@ -22,10 +22,14 @@ use backend::{BpfProgram, SeccompFilter, SeccompRule};
 use convert::{condition, filter_of, Rules};
 use format::{Condition, RuleSet};
 
+// as callfilter.h has it
 #[repr(C)]
 struct Answer {
     code: u32,
     count: u32,
+    entry: u32,
+    rule: u32,
+    condition: u32,
 }
 
 extern "C" {

@@ -62,12 +62,18 @@ enum {
     CALLFILTER_MORE_THAN_32_BITS = 8 /* the value or the mask of a dword condition, which looks at 32 */
 };
 
-/* count: with codes 0, 6 and 7 how many instructions of eight bytes the filter has, else 0 */
+/* stands for an entry, a rule or a condition that an answer does not speak of */
+#define CALLFILTER_NOWHERE UINT32_C(0xffffffff)
+
+/* count: with codes 0, 6 and 7 how many instructions of eight bytes the filter has, else 0.
+ * entry: with 2 the one whose number is not above that of the one before it, with 6 the first with which the filter, its last return
+ * included, is too long, with 4, 5 and 8 the one that the fault is in. rule: with 4, 5 and 8, of this entry. condition: with 5 and 8, of
+ * this rule. All are counted from 0, are the first in the order of the bytes, and with other codes CALLFILTER_NOWHERE. */
 typedef struct {
-    uint32_t code, count;
+    uint32_t code, count, entry, rule, condition;
 } callfilter_answer;
 
-/* Answers the smallest number that applies; refusing, it writes nothing. With 0 out begins with seccompiler's filter for the set, byte for
+/* Answers the smallest number that applies, and where; refusing, it writes nothing. With 0 out begins with seccompiler's filter, byte for
  * byte, and the rest stays: for any call it returns what the set means, it runs no instruction twice, and the kernel's checks pass on it. */
 callfilter_answer callfilter_compile(const uint8_t *set, size_t set_len, uint8_t *out, size_t out_len);
 

@@ -1,5 +1,5 @@
 /* Calls every exported function through callfilter.h, from C and, compiled once more, from C++: the worked set written, read back, compiled,
- * run and decided, and each refusal once. The last line is 'N passed, M failed'. */
+ * run and decided, and each refusal once, those of a set with their places. The last line is 'N passed, M failed'. */
 #include <stdio.h>
 #include <string.h>
 
@@ -118,33 +118,68 @@ static void read_back(void) {
 
 static uint8_t filter[CALLFILTER_LONGEST_FILTER];
 
+#define NOWHERE CALLFILTER_NOWHERE
+
+static bool answered(callfilter_answer given, uint32_t code, uint32_t count, uint32_t entry, uint32_t rule, uint32_t condition) {
+    return given.code == code && given.count == count && given.entry == entry && given.rule == rule && given.condition == condition;
+}
+
 static void compiled(void) {
     const uint8_t *set = WORKED_SET;
     callfilter_answer answer = callfilter_compile(set, sizeof WORKED_SET, filter, 287);
-    CHECK(answer.code == CALLFILTER_BUFFER_TOO_SHORT && answer.count == 36);
+    CHECK(answered(answer, CALLFILTER_BUFFER_TOO_SHORT, 36, NOWHERE, NOWHERE, NOWHERE));
     answer = callfilter_compile(set, sizeof WORKED_SET, filter, sizeof filter);
-    CHECK(answer.code == CALLFILTER_COMPILED && answer.count == 36);
+    CHECK(answered(answer, CALLFILTER_COMPILED, 36, NOWHERE, NOWHERE, NOWHERE));
 
     uint8_t changed[sizeof WORKED_SET];
     static const struct {
         int at;
         uint8_t byte;
-        uint32_t code;
+        uint32_t code, entry, rule, condition;
     } faults[] = {
-        {0, 9, CALLFILTER_NOT_OF_THE_FORMAT},
-        {24, 0, CALLFILTER_NOT_ASCENDING},
-        {36, 6, CALLFILTER_INDEX_ABOVE_FIVE},
+        {0, 9, CALLFILTER_NOT_OF_THE_FORMAT, NOWHERE, NOWHERE, NOWHERE},
+        {24, 0, CALLFILTER_NOT_ASCENDING, 1, NOWHERE, NOWHERE},
+        {61, 0, CALLFILTER_NOT_ASCENDING, 2, NOWHERE, NOWHERE}, /* 1 behind 1 */
+        {36, 6, CALLFILTER_INDEX_ABOVE_FIVE, 1, 0, 0},
+        {72, 255, CALLFILTER_INDEX_ABOVE_FIVE, 2, 0, 0},
+        {100, 6, CALLFILTER_INDEX_ABOVE_FIVE, 2, 1, 0},
+        {48, 1, CALLFILTER_MORE_THAN_32_BITS, 1, 0, 0},
+        {101, CALLFILTER_DWORD, CALLFILTER_MORE_THAN_32_BITS, 2, 1, 0},
     };
     for (size_t at = 0; at < sizeof faults / sizeof faults[0]; at++) {
         memcpy(changed, set, sizeof changed);
         changed[faults[at].at] = faults[at].byte;
-        CHECK(callfilter_compile(changed, sizeof changed, filter, sizeof filter).code == faults[at].code);
+        answer = callfilter_compile(changed, sizeof changed, filter, sizeof filter);
+        CHECK(answered(answer, faults[at].code, 0, faults[at].entry, faults[at].rule, faults[at].condition));
     }
     callfilter_writer writer = callfilter_start(changed, sizeof changed, CALLFILTER_AARCH64, CALLFILTER_LOG, CALLFILTER_LOG);
-    CHECK(callfilter_compile(changed, writer.end, filter, sizeof filter).code == CALLFILTER_EQUAL_ACTIONS);
-    writer = callfilter_start(changed, sizeof changed, CALLFILTER_AARCH64, CALLFILTER_TRAP, CALLFILTER_LOG);
-    writer = callfilter_begin_rule(changed, sizeof changed, callfilter_list(changed, sizeof changed, writer, 5));
-    CHECK(callfilter_compile(changed, writer.end, filter, sizeof filter).code == CALLFILTER_EMPTY_RULE);
+    answer = callfilter_compile(changed, writer.end, filter, sizeof filter);
+    CHECK(answered(answer, CALLFILTER_EQUAL_ACTIONS, 0, NOWHERE, NOWHERE, NOWHERE));
+}
+
+/* Two numbers, of which the second has three rules, of one, four and one conditions on these arguments, or one more rule without conditions
+ * in front of the third. */
+static callfilter_answer on_arguments(const uint8_t index[6], bool empty, uint64_t mask) {
+    static uint8_t set[256];
+    callfilter_writer writer = callfilter_start(set, sizeof set, CALLFILTER_AARCH64, CALLFILTER_TRAP, CALLFILTER_LOG);
+    writer = callfilter_list(set, sizeof set, callfilter_list(set, sizeof set, writer, 5), 6);
+    for (int at = 0; at < 6; at++) {
+        if (at == 5 && empty) writer = callfilter_begin_rule(set, sizeof set, writer);
+        if (at == 0 || at == 1 || at == 5) writer = callfilter_begin_rule(set, sizeof set, writer);
+        writer = callfilter_add_condition(set, sizeof set, writer, index[at], CALLFILTER_DWORD, CALLFILTER_MASKED_EQ, 0, at < 3 ? 1 : mask);
+    }
+    CHECK(writer.code == CALLFILTER_WRITTEN);
+    return callfilter_compile(set, writer.end, filter, sizeof filter);
+}
+
+/* the first place counts, and the smallest code whatever its place */
+static void places(void) {
+    static const uint8_t good[6] = {0, 1, 2, 3, 4, 5}, above[6] = {5, 5, 5, 6, 9, 6};
+    uint64_t wide = UINT64_C(1) << 32;
+    CHECK(on_arguments(good, false, wide - 1).code == CALLFILTER_COMPILED);
+    CHECK(answered(on_arguments(good, false, wide), CALLFILTER_MORE_THAN_32_BITS, 0, 1, 1, 2));
+    CHECK(answered(on_arguments(above, false, wide), CALLFILTER_INDEX_ABOVE_FIVE, 0, 1, 1, 2));
+    CHECK(answered(on_arguments(above, true, wide), CALLFILTER_EMPTY_RULE, 0, 1, 2, NOWHERE));
 }
 
 static void put(uint8_t *place, uint64_t value, int size) {
@@ -169,7 +204,9 @@ static void limits(void) {
     callfilter_answer answer = callfilter_compile(long_set, writer.end, filter, sizeof filter);
     CHECK(answer.code == CALLFILTER_COMPILED && 8 * answer.count == CALLFILTER_LONGEST_FILTER);
     answer = callfilter_compile(long_set, plain_calls(819).end, filter, sizeof filter);
-    CHECK(answer.code == CALLFILTER_TOO_MANY_INSTRUCTIONS && answer.count == 4100);
+    CHECK(answered(answer, CALLFILTER_TOO_MANY_INSTRUCTIONS, 4100, 818, NOWHERE, NOWHERE));
+    answer = callfilter_compile(long_set, plain_calls(131070).end, filter, sizeof filter);
+    CHECK(answered(answer, CALLFILTER_TOO_MANY_INSTRUCTIONS, 655355, 818, NOWHERE, NOWHERE));
 }
 
 /* what a set of one condition on argument 0 means for it */
@@ -248,6 +285,7 @@ int main(void) {
     written();
     read_back();
     compiled();
+    places();
     limits();
     numbers();
     asked();

@@ -105,17 +105,18 @@ def run(program, data, seconds):
 
 
 def ask(program, frames, seconds=600):
-    """The answers (code, count, filter) of a program to frames of (set, room). A program that stops early leaves fewer answers."""
+    """The answers (code, count, entry, rule, condition, filter) of a program to frames of (set, room). A program that stops early leaves
+    fewer answers."""
     data = b"".join(struct.pack("<II", len(given), room) + given for given, room in frames)
     output, trouble = run(program, data, seconds)
     answers, at = [], 0
-    while len(answers) < len(frames) and at + 8 <= len(output):
-        code, count = struct.unpack_from("<II", output, at)
-        at += 8
+    while len(answers) < len(frames) and at + 20 <= len(output):
+        code, count, *place = struct.unpack_from("<5I", output, at)
+        at += 20
         size = 8 * count if code == 0 else 0
         if at + size > len(output):
             break
-        answers.append((code, count, output[at:at + size]))
+        answers.append((code, count, *place, output[at:at + size]))
         at += size
     if not trouble and (len(answers) < len(frames) or at < len(output)):
         trouble = f"gave {len(answers)} answers to {len(frames)} frames, and {len(output) - at} bytes more"

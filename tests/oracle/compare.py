@@ -75,6 +75,9 @@ def longest():
     yield encode((X86_64, ERRNO, ALLOW, [(0, [[condition] * conditions])]))
     yield encode((X86_64, ERRNO, ALLOW, [(0, [[condition] * (conditions - 1) + [(6, 4, EQ, 1, 0)]])]))
     yield encode((X86_64, ERRNO, ALLOW, [(0, [[condition]] * ((LONGEST_SET - 24) // 28))]))
+    # a fault as far back as it can be
+    yield encode((X86_64, ERRNO, ALLOW, [(0, [[condition]] * ((LONGEST_SET - 28) // 28) + [[]])]))
+    yield encode((X86_64, ERRNO, ALLOW, [(number, []) for number in range((LONGEST_SET - 52) // 8)] + [(2 ** 32 - 1, [[(6, 4, EQ, 0, 0)]])]))
 
 
 def drawn(seed, count):
@@ -96,7 +99,7 @@ def drawn(seed, count):
             made = None
         if made is None:
             source = draw.of((draw.small, draw.small, draw.small, draw.long_rules, draw.many_numbers))()
-            if draw.chance(3):
+            if draw.chance(2):
                 yield encode(draw.refused(source)), draw.of((PLENTY, 0))
             else:
                 yield draw.damaged(encode(source)), PLENTY
@@ -130,7 +133,7 @@ def compare(frames, oracle, other, judge, calls, seed, tally):
     for place, answers in enumerate(zip(expected, given)):
         for answer in answers:
             if answer and answer[0] == 0 and expected[place][0] == 0:
-                to_run[place, answer[2]] = None
+                to_run[place, answer[-1]] = None
     results, told = build.judge(judge, [(frames[place][0], code) for place, code in to_run], calls, seed)
     verdicts = {}
     for (place, _), (wrong, matched, refused) in zip(to_run, results):
@@ -148,11 +151,11 @@ def compare(frames, oracle, other, judge, calls, seed, tally):
             tally.passed += 1
             continue
         if got is None:
-            reason = f"no answer, expected {wanted[:2]}"
-        elif wanted[:2] != got[:2]:
-            reason = f"answered {got[:2]}, expected {wanted[:2]}"
+            reason = f"no answer, expected {wanted[:-1]}"
+        elif wanted[:-1] != got[:-1]:
+            reason = f"answered {got[:-1]}, expected {wanted[:-1]}"
         elif wanted != got:
-            at = next(at for at, (one, two) in enumerate(zip(wanted[2], got[2])) if one != two)
+            at = next(at for at, (one, two) in enumerate(zip(wanted[-1], got[-1])) if one != two)
             reason = f"filters differ, first in instruction {at // 8}"
         else:
             reason = "filters agree"

@@ -1,7 +1,8 @@
 // A host in C around the proved compiler: it answers the oracle's frames, so that both can be given the same sets, and looks at every byte
 // that the compiler was not to touch. Set and buffer each end where readable memory ends, so that one byte too far stops the program.
 //
-// Standard input: frames of (set length, room, set). Standard output, for each: (code, count) and, if the code is 0, the filter.
+// Standard input: frames of (set length, room, set). Standard output, for each: (code, count, entry, rule, condition), which is how the
+// answer lies in memory, and, if the code is 0, the filter.
 
 #define _DEFAULT_SOURCE
 #include <stdint.h>

@@ -1,8 +1,9 @@
 // The oracle: answers rule sets given as bytes with the real compiler of seccompiler 0.5.0, and checks on the way that the compiler's own
 // refusals are the answers given. It exists to be compared with; nothing of it is part of the product.
 //
-// Standard input: frames of (set length, room, set). Standard output, for each: (code, count) and, if the code is 0, the filter.
-// All numbers have 4 bytes, lowest byte first. With the argument `differences` it instead tries the listed differences on the real code.
+// Standard input: frames of (set length, room, set). Standard output, for each: (code, count, entry, rule, condition) and, if the code is
+// 0, the filter. All numbers have 4 bytes, lowest byte first. With the argument `differences` it instead tries the listed differences on
+// the real code.
 
 mod backend;
 mod convert;
@@ -14,7 +15,7 @@ use backend::{
     BpfProgram, Error, SeccompAction, SeccompCmpArgLen, SeccompCmpOp, SeccompCondition, SeccompFilter, SeccompRule, TargetArch,
 };
 use convert::{condition, filter_of, put_right, Rules};
-use format::{next_bytes, next_word, read_set};
+use format::{next_bytes, next_word, read_set, Entry, RuleSet};
 
 // how often the real code was asked for each of its opinions, and how often it refused
 #[derive(Default)]
@@ -31,6 +32,43 @@ const LENGTH: usize = 3;
 
 // the number of instructions from which on filters are refused: seccompiler's own, or that of the copy with its limit raised
 const REFUSED_FROM: usize = if cfg!(raised) { 4097 } else { 4096 };
+
+// as many as are taken here, whatever the real code refuses
+const LONGEST: usize = 4096;
+
+// entry, rule and condition, counted from 0
+type Place = [u32; 3];
+
+// what is told for each of them that an answer is not about
+const NOWHERE: u32 = u32::MAX;
+
+struct Answer {
+    code: u32,
+    count: u32,
+    place: Place,
+    program: BpfProgram,
+}
+
+fn refused(code: u32, count: usize, place: Option<Place>) -> Answer {
+    Answer { code, count: count as u32, place: place.unwrap_or([NOWHERE; 3]), program: vec![] }
+}
+
+fn place(entry: usize, rule: Option<usize>, condition: Option<usize>) -> Place {
+    [Some(entry), rule, condition].map(|number| number.map_or(NOWHERE, |number| number as u32))
+}
+
+// The first entry with which the real code's filter is too long. Each entry makes it longer, so it can be searched for by halves.
+fn too_long_with(set: &RuleSet, rules: &Rules) -> Option<Place> {
+    let taken = |last: &Entry| {
+        let up_to = rules.range(..=i64::from(last.number)).map(|(number, rules)| (*number, rules.clone())).collect();
+        match BpfProgram::try_from(filter_of(set, up_to).expect("a filter that nothing is wrong with")) {
+            Err(Error::FilterTooLarge(count)) => count <= LONGEST,
+            program => program.is_ok(),
+        }
+    };
+    let entry = set.entries.partition_point(taken);
+    (entry < set.entries.len()).then(|| place(entry, None, None))
+}
 
 impl Opinions {
     // a disagreement means that this program or the description is wrong, and then no answer of it is worth anything
@@ -52,29 +90,34 @@ impl Opinions {
     }
 }
 
-fn answer(bytes: &[u8], room: u32, opinions: &mut Opinions) -> (u32, u32, BpfProgram) {
-    let Some(set) = read_set(bytes) else { return (1, 0, vec![]) };
+fn answer(bytes: &[u8], room: u32, opinions: &mut Opinions) -> Answer {
+    let Some(set) = read_set(bytes) else { return refused(1, 0, None) };
 
-    let ascending = set.entries.windows(2).all(|pair| pair[0].number < pair[1].number);
+    let descent = set.entries.windows(2).position(|pair| pair[0].number >= pair[1].number);
+    let descending = descent.map(|before| place(before + 1, None, None));
 
     // asked with no rules, since the rules may not be makeable
     let same = set.mismatch == set.on_match;
     opinions.ask(ACTIONS, same, filter_of(&set, Rules::new()) == Err(Error::IdenticalActions), bytes);
 
-    let mut empty = false;
-    let mut beyond = false;
-    let mut wide = false;
+    // of each kind the first that is met stays
+    let (mut empty, mut beyond, mut wide) = (None, None, None);
     let mut rules = Rules::new();
-    for entry in &set.entries {
+    for (at, entry) in set.entries.iter().enumerate() {
         let mut made = vec![];
-        for rule in &entry.rules {
+        for (which, rule) in entry.rules.iter().enumerate() {
             let mut conditions = vec![];
-            for given in rule {
+            for (last, given) in rule.iter().enumerate() {
+                let here = place(at, Some(which), Some(last));
                 let result = condition(given);
                 opinions.ask(INDEX, given.index > 5, result == Err(Error::InvalidArgumentNumber), bytes);
-                beyond |= given.index > 5;
+                if given.index > 5 {
+                    beyond.get_or_insert(here);
+                }
                 // the real code takes these, and ignores what is above 32 bits: a listed difference
-                wide |= !given.wide && (given.value | given.mask) >> 32 != 0;
+                if !given.wide && (given.value | given.mask) >> 32 != 0 {
+                    wide.get_or_insert(here);
+                }
                 conditions.extend(result.ok());
             }
             if conditions.len() == rule.len() {
@@ -82,34 +125,37 @@ fn answer(bytes: &[u8], room: u32, opinions: &mut Opinions) -> (u32, u32, BpfPro
                 opinions.ask(EMPTY, rule.is_empty(), result == Err(Error::EmptyRule), bytes);
                 made.extend(result.ok());
             }
-            empty |= rule.is_empty();
+            if rule.is_empty() {
+                empty.get_or_insert(place(at, Some(which), None));
+            }
         }
         rules.insert(i64::from(entry.number), made);
     }
 
     // which of several refusals counts is ours to say: the real code reports the first that its caller meets
-    let refusal = [(2, !ascending), (3, same), (4, empty), (5, beyond)].into_iter().find(|(_, applies)| *applies);
-    if let Some((code, _)) = refusal {
-        return (code, 0, vec![]);
+    let equal = same.then_some([NOWHERE; 3]);
+    let refusal = [(2, descending), (3, equal), (4, empty), (5, beyond)].into_iter().find(|(_, found)| found.is_some());
+    if let Some((code, found)) = refusal {
+        return refused(code, 0, found);
     }
 
-    let filter = filter_of(&set, rules).expect("a filter that nothing is wrong with");
+    let filter = filter_of(&set, rules.clone()).expect("a filter that nothing is wrong with");
     match BpfProgram::try_from(filter) {
         Ok(mut program) => {
             put_right(&mut program, &set);
             opinions.ask(LENGTH, program.len() >= REFUSED_FROM, false, bytes);
-            let count = program.len() as u32;
-            if u64::from(room) < 8 * u64::from(count) {
-                (7, count, vec![])
-            } else if wide {
-                (8, 0, vec![])
+            let count = program.len();
+            if (room as usize) < 8 * count {
+                refused(7, count, None)
+            } else if wide.is_some() {
+                refused(8, 0, wide)
             } else {
-                (0, count, program)
+                Answer { program, ..refused(0, count, None) }
             }
         }
         Err(Error::FilterTooLarge(count)) => {
             opinions.ask(LENGTH, count >= REFUSED_FROM, true, bytes);
-            (6, count as u32, vec![])
+            refused(6, count, too_long_with(&set, &rules))
         }
         Err(other) => panic!("an error that compiling does not have: {other:?}"),
     }
@@ -170,8 +216,8 @@ fn main() {
     while let Some(length) = next_word(&mut input) {
         let room = next_word(&mut input).expect("a whole frame");
         let set = next_bytes(&mut input, length);
-        let (code, count, program) = answer(&set, room, &mut opinions);
-        let mut reply = [code.to_le_bytes(), count.to_le_bytes()].concat();
+        let Answer { code, count, place: [entry, rule, condition], program } = answer(&set, room, &mut opinions);
+        let mut reply = [code, count, entry, rule, condition].map(u32::to_le_bytes).concat();
         for step in program {
             reply.extend(step.code.to_le_bytes());
             reply.extend([step.jt, step.jf]);

@@ -154,11 +154,13 @@ class Draw:
         return made
 
     def refused(self, rule_set):
-        """A copy that is still of the format, with one or two reasons to refuse it."""
+        """A copy that is still of the format, with one to four reasons to refuse it, anywhere in it."""
         architecture, mismatch, match, entries = rule_set
         entries = [(number, [list(rule) for rule in rules]) for number, rules in entries] or [(7, [])]
-        for _ in range(self.between(1, 2)):
-            way = self.below(5)
+        # each way is now and then the one of the smallest code
+        least = self.below(5)
+        for _ in range(self.between(1, 4)):
+            way = self.between(least, 4)
             place = self.below(len(entries))
             number, rules = entries[place]
             if way == 0:

@@ -5,17 +5,18 @@ instructions) and must be the model's too; where the oracle cannot be built they
 
     make.py [--check]     writes crates/replay/stdin and stdout; with --check only compares them with what it would write
 
-A record: what it is, set length, room, code, count, filter length (4 bytes each, lowest byte first), set, filter. What it is: 0 a vector,
-1 the name of the kind that follows, in the set's place, 2 the end. Sets of exactly 1 MiB, and of 1, 4 and 8 bytes more, are too large to store:
-tests/oracle/compare.py makes them."""
+A record: what it is, set length, room, code, count, entry, rule, condition, filter length (4 bytes each, lowest byte first), set, filter.
+What it is: 0 a vector, 1 the name of the kind that follows, in the set's place, 2 the end. Sets of exactly 1 MiB, and of 1, 4 and 8 bytes
+more, are too large to store: tests/oracle/compare.py makes them."""
+import itertools
 import pathlib
 import struct
 import sys
 
 from draw import EDGES, Draw
 from model import (
-    AARCH64, ACTIONS, ALLOW, ARCHITECTURES, EQ, ERRNO, GE, GT, KILL_PROCESS, LE, LOG, LT, MASKED_EQ, NE, OPERATORS, TRACE, TRAP, WIDTHS, X86_64,
-    answer, decode, distances, encode, helper_sets, length, rule_length, size_of)
+    AARCH64, ACTIONS, ALLOW, ARCHITECTURES, EQ, ERRNO, GE, GT, KILL_PROCESS, LE, LOG, LT, MASKED_EQ, NE, NOWHERE, OPERATORS, TRACE, TRAP,
+    WIDTHS, X86_64, answer, decode, distances, encode, helper_sets, length, rule_length, size_of)
 
 ROOT = pathlib.Path(__file__).resolve().parent.parent.parent
 STORED = ROOT / "crates" / "replay" / "stdin"
@@ -297,14 +298,93 @@ def numbers():
 
 
 def rooms():
-    samples = [(*HEAD, []), WORKED_SET, one_rule(repeated(GE, 8, 51)), (*HEAD, [(number, []) for number in range(412)]), exact_plain(4096)]
+    samples = [(*HEAD, []), WORKED_SET, one_rule(repeated(GE, 8, 51)), (*HEAD, [(number, []) for number in range(412)])]
     for made in samples:
         size = 8 * length(made)
         for room in (size, size - 1, 0, size + 5, size - 8, size - 7, 1, 7, 8, size // 2):
             yield encode(made), room
+    # a long one costs its size each time
+    for room in (LONGEST_FILTER, LONGEST_FILTER - 1, 0):
+        yield encode(exact_plain(4096)), room
     for refused in (b"", encode((X86_64, ALLOW, ALLOW, [])), encode((*HEAD, [(0, [[]])])), encode(exact_plain(4097))):
         for room in (0, 5, LONGEST_FILTER, LONGEST_FILTER + 5):
             yield refused, room
+
+
+ASCENDING = list(range(10, 80, 10))
+# which of them have rules: three, of three conditions each
+RULED = (0, 3, 5)
+EVERYWHERE = [(entry, rule, condition) for entry in RULED for rule in range(3) for condition in range(3)]
+# more than 32 bits in a value and in a mask
+TOO_WIDE = [(2, 4, NE, 2 ** 63, 0), (0, 4, EQ, 2 ** 32, 0), (5, 4, MASKED_EQ, 3, 2 ** 32)]
+
+
+def faulty(*faults, numbers=ASCENDING):
+    """A set with faults, each a code and as much of its place as is told with it."""
+    rule = [(2, 8, NE, 7, 0), ONE, (5, 4, MASKED_EQ, 3, 6)]
+    entries = [(number, [list(rule) for _ in range(3)] if entry in RULED else []) for entry, number in enumerate(numbers)]
+    for code, entry, *inside in faults:
+        _, rules = entries[entry]
+        if code == 2:
+            entries[entry] = 0, rules
+        elif code == 4:
+            rules[inside[0]] = []
+        else:
+            at, last = inside
+            rules[at][last] = (6, *rule[last][1:]) if code == 5 else TOO_WIDE[last]
+    return (*HEAD, entries)
+
+
+def too_long():
+    """Sets whose filters are too long from an entry on, with that entry."""
+    def plain(start, count):
+        return [(number, []) for number in range(start, start + count)]
+
+    fitting_entries, one_more = exact_plain(4096)[3], exact_plain(4097)[3]
+    long_entry = (700, [[ONE], repeated(MASKED_EQ, 8, 150)])
+    yield plain(0, 850), 818
+    yield fitting_entries + plain(900, 1), len(fitting_entries)
+    yield one_more + plain(900, 9), len(one_more) - 1
+    yield exact_rule(4097)[3] + plain(900, 9), 0
+    yield plain(0, 640) + [long_entry] + plain(900, 9), 640
+    yield [(0, [[TOO_WIDE[0]]])] + plain(1, 850), 817
+    # just too long by the helper jumps of the first entry
+    yield [(0, [repeated(LE, 4, 125)])] + plain(1, 800), 767
+
+
+def places():
+    """Faults in first, middle and last entries, rules and conditions: one alone, several of one kind, of which the first counts, and of
+    two kinds, of which the smaller code counts. Where they were put is what has to be told."""
+    def told(rule_set, code, *place):
+        data, count = encode(rule_set), length(rule_set) if code == 6 else 0
+        given, expected = answer(data, LONGEST_FILTER), (code, count, *place, *[NOWHERE] * (3 - len(place)), b"")
+        assert given == expected, (given, expected)
+        return data, LONGEST_FILTER
+
+    def fault(code, place):
+        return (code, *place[:{2: 1, 4: 2}.get(code, 3)])
+
+    for entry in range(1, len(ASCENDING)):
+        yield told(faulty((2, entry)), 2, entry)
+        before, behind = ASCENDING[:entry], ASCENDING[entry:]
+        yield told(faulty(numbers=before + before[-1:] + behind[1:]), 2, entry)
+        yield told(faulty(numbers=before + before[-1:] * len(behind)), 2, entry)
+        # what is wrong with a number that is too large is the one behind it
+        yield told(faulty(numbers=before[:-1] + [TOP] + behind), 2, entry)
+    for code in (4, 5, 8):
+        for only in dict.fromkeys(fault(code, place) for place in EVERYWHERE):
+            yield told(faulty(only), *only)
+    draw = Draw(3)
+    for _ in range(12):
+        for code in (4, 5, 8):
+            several = [fault(code, place) for place in sorted(draw.of(EVERYWHERE) for _ in range(draw.between(2, 5)))]
+            yield told(faulty(*several), *several[0])
+    for one, other in itertools.combinations((2, 4, 5, 8), 2):
+        for here, there in itertools.permutations(((3, 0, 1), (3, 2, 2), (5, 1, 0)), 2):
+            smaller = fault(one, here)
+            yield told(faulty(smaller, fault(other, there)), *smaller)
+    for entries, entry in too_long():
+        yield told((*HEAD, entries), 6, entry)
 
 
 def drawn():
@@ -410,11 +490,13 @@ def damaged(data):
 
 
 def damaged_copies(frames, used):
-    """Damaged copies of one set of a kind: of the smallest that compiles and was not used yet, with several conditions if there is one."""
+    """Damaged copies of one set of a kind: of the smallest that compiles and was not used yet, with several conditions if there is one, or
+    with one condition where it is large."""
     compiled = [data for data, room in frames if data not in used and answer(data, room)[0] == 0]
     if not compiled:
         return
-    chosen = min(compiled, key=lambda data: (-min(2, sum(name == "index" for name, _, _ in fields(data))), len(data)))
+    conditions = {data: sum(name == "index" for name, _, _ in fields(data)) for data in compiled}
+    chosen = min(compiled, key=lambda data: (-min(2 if len(data) <= LARGE else 1, conditions[data]), len(data)))
     used.add(chosen)
     seen = {chosen}
     for data in damaged(chosen):
@@ -428,7 +510,7 @@ def damaged_copies(frames, used):
 
 def all_kinds():
     base = (worked, corner_cases, answers, answer_pairs, values, masks, indices, helpers, helper_distances, lengths, many_rules, plain_list,
-            actions, unknown_words, numbers, rooms, drawn)
+            actions, unknown_words, numbers, rooms, places, drawn)
     kinds = [(make.__name__.replace("_", "-"), list(make())) for make in base]
     used = set()
     return kinds + [(f"damaged-{name}", copies) for name, frames in kinds if (copies := list(damaged_copies(frames, used)))]
@@ -442,8 +524,8 @@ def check_against_oracle(frames, expected):
         print(f"the model's answers alone: {missing}")
         return
     for (data, room), model, real in zip(frames, expected, given):
-        assert model == real, f"model {model[:2]}, seccompiler {real[:2]}, room {room}, set {data.hex()}"
-    filters = [(data, written) for (data, _), (code, _, written) in zip(frames, expected) if code == 0]
+        assert model == real, f"model {model[:-1]}, seccompiler {real[:-1]}, room {room}, set {data.hex()}"
+    filters = [(data, written) for (data, _), (code, *_, written) in zip(frames, expected) if code == 0]
     results, told = build.judge(judge, filters, 100, 3)
     assert not any(wrong or refused for wrong, _, refused in results), "\n".join(told)
     matched = sum(result[1] for result in results)
@@ -454,23 +536,23 @@ def main():
     kinds = all_kinds()
     frames = [frame for _, of_kind in kinds for frame in of_kind]
     expected = [answer(*frame) for frame in frames]
-    assert answer(encode(WORKED_SET), LONGEST_FILTER) == (0, 36, WORKED_FILTER)
+    assert answer(encode(WORKED_SET), LONGEST_FILTER) == (0, 36, NOWHERE, NOWHERE, NOWHERE, WORKED_FILTER)
     check_against_oracle(frames, expected)
 
     records, printed, place = [], [], 0
     for name, of_kind in kinds:
-        records.append(struct.pack("<IIIIII", KIND, len(name), 0, 0, 0, 0) + name.encode())
+        records.append(struct.pack("<9I", KIND, len(name), 0, 0, 0, 0, 0, 0, 0) + name.encode())
         for data, room in of_kind:
-            code, count, written = expected[place]
+            *told, written = expected[place]
             place += 1
             assert len(data) <= LONGEST_STORED_SET and len(written) <= LONGEST_FILTER
-            records.append(struct.pack("<IIIIII", VECTOR, len(data), room, code, count, len(written)) + data + written)
+            records.append(struct.pack("<9I", VECTOR, len(data), room, *told, len(written)) + data + written)
         printed.append(f"{name}: {len(of_kind)} passed, 0 failed\n")
-    stored = b"".join(records) + struct.pack("<IIIIII", END, 0, 0, 0, 0, 0)
+    stored = b"".join(records) + struct.pack("<9I", END, 0, 0, 0, 0, 0, 0, 0, 0)
     printed = "".join(printed) + f"{len(frames)} passed, 0 failed\n"
     assert len(stored) < LARGEST_FILE, len(stored)
 
-    codes = [code for code, _, _ in expected]
+    codes = [code for code, *_ in expected]
     counts = ", ".join(f"{code}: {codes.count(code)}" for code in range(9))
     print(f"{len(frames)} vectors of {len(kinds)} kinds, {len(stored)} bytes; answers ({counts})")
     if "--check" in sys.argv[1:]:

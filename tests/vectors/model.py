@@ -4,6 +4,7 @@ opinion on every stored vector. Run as a program it speaks the oracle's frames.
 
 A rule set is (architecture, mismatch, match, entries), an entry (number, rules), a rule a list of conditions, and a condition
 (index, width, operator, value, mask)."""
+import itertools
 import struct
 import sys
 
@@ -19,6 +20,8 @@ ARCHITECTURES = tuple(ARCHITECTURE_WORDS)
 LONGEST_SET = 2 ** 20
 TOO_MANY = 4097
 FURTHEST = 248
+# what is told in the place of an entry, a rule or a condition that the answer is not about
+NOWHERE = 2 ** 32 - 1
 
 # ---- the byte form
 
@@ -170,12 +173,15 @@ def rule_length(rule):
     return 3 + sum(map(size_of, rule)) + 3 * helper_sets(rule)
 
 
+def entry_length(entry):
+    _, rules = entry
+    return 2 + (sum(map(rule_length, rules)) if rules else 3)
+
+
 def length(rule_set):
     """The number of instructions, summed without writing them."""
     entries = rule_set[3]
-    if not entries:
-        return 4
-    return 5 + sum(2 + (sum(map(rule_length, rules)) if rules else 3) for _, rules in entries)
+    return 5 + sum(map(entry_length, entries)) if entries else 4
 
 
 def filter_bytes(rule_set):
@@ -185,40 +191,50 @@ def filter_bytes(rule_set):
 # ---- the answer
 
 
+def refused(code, count=0, entry=NOWHERE, rule=NOWHERE, condition=NOWHERE):
+    return code, count, entry, rule, condition, b""
+
+
 def answer(data, room):
-    """(code, count, filter): the smallest code that applies."""
+    """(code, count, entry, rule, condition, filter): the smallest code that applies, and where it first does, counted from 0."""
     rule_set = decode(data)
     if rule_set is None:
-        return 1, 0, b""
+        return refused(1)
     _, mismatch, match, entries = rule_set
-    numbers = [number for number, _ in entries]
-    rules = [rule for _, rules in entries for rule in rules]
-    if any(one >= next_one for one, next_one in zip(numbers, numbers[1:])):
-        return 2, 0, b""
+    rules = [(entry, at, rule) for entry, (_, rules) in enumerate(entries) for at, rule in enumerate(rules)]
+    conditions = [(*place, at, condition) for *place, rule in rules for at, condition in enumerate(rule)]
+    for entry in range(1, len(entries)):
+        if entries[entry - 1][0] >= entries[entry][0]:
+            return refused(2, 0, entry)
     if mismatch == match:
-        return 3, 0, b""
-    if not all(rules):
-        return 4, 0, b""
-    if any(condition[0] > 5 for rule in rules for condition in rule):
-        return 5, 0, b""
+        return refused(3)
+    for *place, rule in rules:
+        if not rule:
+            return refused(4, 0, *place)
+    for *place, (index, _, _, _, _) in conditions:
+        if index > 5:
+            return refused(5, 0, *place)
     count = length(rule_set)
     if count >= TOO_MANY:
-        return 6, count, b""
+        # five instructions stand around the entries, the last return among them
+        sums = itertools.accumulate(map(entry_length, entries))
+        return refused(6, count, next(entry for entry, size in enumerate(sums) if 5 + size >= TOO_MANY))
     if room < 8 * count:
-        return 7, count, b""
-    if any(width == 4 and (value | mask) >> 32 for rule in rules for _, width, _, value, mask in rule):
-        return 8, 0, b""
+        return refused(7, count)
+    for *place, (_, width, _, value, mask) in conditions:
+        if width == 4 and (value | mask) >> 32:
+            return refused(8, 0, *place)
     written = filter_bytes(rule_set)
     assert len(written) == 8 * count, "the summed length is not the written one"
-    return 0, count, written
+    return 0, count, NOWHERE, NOWHERE, NOWHERE, written
 
 
 def main():
     read, write = sys.stdin.buffer.read, sys.stdout.buffer.write
     while head := read(8):
         size, room = struct.unpack("<II", head)
-        code, count, written = answer(read(size), room)
-        write(struct.pack("<II", code, count) + written)
+        *told, written = answer(read(size), room)
+        write(struct.pack("<5I", *told) + written)
 
 
 if __name__ == "__main__":

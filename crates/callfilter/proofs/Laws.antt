@@ -14,7 +14,7 @@ use Rattle.definitions.specs.Machine.{filterBytes}
 use Rattle.definitions.specs.Emitted.{emitted}
 use Rattle.definitions.specs.RuleSet.{RuleSet}
 use Rattle.definitions.specs.Format.{read}
-use Rattle.definitions.specs.Answer.{ascending, rulesFilled, indicesTaken, widthsFit, tooMany, answer, codeWith, refusal, countWith, answerWith, answerRead, answerOf}
+use Rattle.definitions.specs.Answer.{ascending, rulesFilled, indicesTaken, widthsFit, tooMany, noFault, tooLong, faultOf, answer, codeWith, refusal, countWith, answerWith, answerRead, answerOf}
 use Rattle.definitions.specs.Compiled.{Compiled}
 use Rattle.theorems.proofs.Lengths.{length-emitted}
 use Rattle.theorems.proofs.Bytes.{length-filter}
@@ -25,7 +25,7 @@ use Rattle.filter.specs.At.{entriesPast, setHere}
 use Rattle.filter.proofs.Agree.{read-agrees}
 use Rattle.ruleset.specs.Scan.{judged}
 use Rattle.ruleset.specs.declared.Judged.{Judged}
-use Rattle.callfilter.specs.Verdict.{early, codeFrom}
+use Rattle.callfilter.specs.Verdict.{early, codeFrom, faultIn}
 
 code-by : (a b c d w x y : Bool)
     → _≡_ {A = ℕ} (cond a 2 (cond b 3 (cond c 4 (cond d 5 (cond x 6 (cond y 7 (cond w 8 0)))))))
@@ -49,15 +49,44 @@ unfolding codeFrom
 one-from n room = refl
 
 by-answer : (room : ℕ) (x : Option RuleSet)
-    → answerRead x room ≡ answer (codeFrom (judged x .code) (judged x .count) room) (countWith (codeFrom (judged x .code) (judged x .count) room) (judged x .count))
+    → answerRead x room
+    ≡ answer (codeFrom (judged x .code) (judged x .count) room) (countWith (codeFrom (judged x .code) (judged x .count) room) (judged x .count))
+    (faultIn x (codeFrom (judged x .code) (judged x .count) room))
 unfolding judged answerWith
 by-answer room none = rw (one-from 0 room)
 by-answer room (some rs) = rw (← length-emitted rs, ← code-from (length (emitted rs)) rs room)
 
+-- the answer's three parts, from what is said of a set
 pub answer-from : (s : List ℕ) (room : ℕ) (j : Judged) → j ≡ judged (read s)
-    → answerOf s room ≡ answer (codeFrom (j .code) (j .count) room) (countWith (codeFrom (j .code) (j .count) room) (j .count))
+    → answerOf s room
+    ≡ answer (codeFrom (j .code) (j .count) room) (countWith (codeFrom (j .code) (j .count) room) (j .count)) (faultIn (read s) (codeFrom (j .code) (j .count) room))
 unfolding answerOf
 answer-from s room j e = rw e (by-answer room (read s))
+
+one-nowhere : (x : Option RuleSet) → faultIn x 1 ≡ noFault
+unfolding faultOf
+one-nowhere none = refl
+one-nowhere (some rs) = refl
+
+pub nowhere-in : (s : List ℕ) (code : ℕ) → code ≡ 1 → faultIn (read s) code ≡ noFault
+nowhere-in s code e = rw e (one-nowhere (read s))
+
+-- what is not answered 1 was read
+pub record Readable (s : List ℕ) (code : ℕ) : Type 0 where
+  pub head : 16 ≤ length s
+  pub size : length s ≤ 1048576
+  pub entries : entriesPast s (numberAt 4 s 12) 16 ≤ length s
+  pub found : faultIn (read s) code ≡ faultOf (tooLong (setHere s)) code (setHere s)
+
+readable-by : (s : List ℕ) (code : ℕ) (x : Option RuleSet) → read s ≡ x → (judged x .code ≡ 1 → ⊥) → Readable s code
+unfolding judged
+readable-by s code none e h = absurd (h refl)
+readable-by s code (some rs) e h =
+    let g = read-agrees s rs e in
+    record { head = g .1; size = g .2; entries = omega (arith, g .3); found = rw (e, g .0) }
+
+pub readable : (s : List ℕ) (room code : ℕ) (j : Judged) → j ≡ judged (read s) → code ≡ codeFrom (j .code) (j .count) room → (code ≡ 1 → ⊥) → Readable s code
+readable s room code j e p h = readable-by s code (read s) refl (λ z. h (p ∙ rw (e, z) (one-from (judged (read s) .count) room)))
 
 -- ---- the filter may be written, and is then the compiled one
 

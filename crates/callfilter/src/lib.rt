@@ -16,17 +16,31 @@ ghost use Rattle.callfilter.specs.Verdict.{early, codeFrom};
 use definitions::Answer;
 use definitions::Compared;
 use definitions::Cursor;
+use definitions::Fault;
 use definitions::Head;
 use definitions::Listed;
 use definitions::Outcome;
 use definitions::Writer;
 
-fn give(code: u32, count: u32) -> Answer
-    ensures { λ r. ⌜ r ≡ answers.answer code count ⌝ }
+fn no_fault() -> Fault
+    ensures { λ r. ⌜ r ≡ answers.noFault ⌝ }
+{
+    Fault {
+        entry: 0xffffffff,
+        rule: 0xffffffff,
+        condition: 0xffffffff,
+    }
+}
+
+fn give(code: u32, count: u32, fault: Fault) -> Answer
+    ensures { λ r. ⌜ r ≡ answers.answer code count fault ⌝ }
 {
     Answer {
         code: code,
         count: count,
+        entry: fault.entry,
+        rule: fault.rule,
+        condition: fault.condition,
     }
 }
 
@@ -76,7 +90,12 @@ fn verdict(set: &[u8], room: usize) -> Answer
     let found = ruleset::judge(set);
     let size = found.count;
     let code = code_from(found.code, size, room);
-    give(code, count_with(code, size as u32))
+    let count = count_with(code, size as u32);
+    // what is not of the format has no parts to name
+    if code == 1 {
+        return give(code, count, no_fault());
+    }
+    give(code, count, location::locate(set, code))
 }
 
 // Compiles a rule set into a lent buffer.

@@ -1,5 +1,5 @@
 -- Which answer a byte string and an output buffer get: the smallest number that applies. With 0, 6 and 7 comes the number of
--- instructions; with the others 0.
+-- instructions; with the others 0. With 2, 4, 5, 6 and 8 comes where the fault is, the first in the order of the bytes.
 --
 --   0  compiled
 --   1  not of the format
@@ -10,15 +10,16 @@
 --   6  too many instructions
 --   7  the output buffer is too short
 --   8  a dword condition whose value or mask has more than 32 bits
-use Prim.Native.Nat.{ℕ, _*_}
+use Prim.Native.Nat.{ℕ, suc, _*_}
 use mathlib.Core.Bool.{Bool, true, false, cond, not, _&&_, _||_}
-use mathlib.Core.List.{List, [], _∷_}
+use mathlib.Core.List.{List, [], _∷_, _++_}
 use mathlib.Core.Option.{Option, none, some}
 use lib.Dec.{eqb, leb, ltb}
-use lib.ListN.{length}
+use lib.ListN.{length, getD}
 use Rattle.definitions.specs.declared.Width.{Width}
 use Rattle.definitions.specs.declared.Width.the-variants.{Dword, Qword}
 use Rattle.definitions.specs.declared.Condition.{Condition}
+use Rattle.definitions.specs.declared.Fault.{Fault}
 use Rattle.definitions.specs.declared.Answer.{Answer}
 use Rattle.definitions.specs.RuleSet.{Rule, Entry, RuleSet}
 use Rattle.definitions.specs.Emitted.{emitted}
@@ -65,9 +66,6 @@ widthsFit rs = everyRule (all fitsWidth) rs
 abbrev pub tooMany : ℕ
 tooMany = 4097
 
-abbrev pub answer : ℕ → ℕ → Answer
-answer code count = record { code = code; count = count }
-
 -- the smallest number that applies to a rule set whose filter has n instructions
 unfoldable pub codeWith : ℕ → RuleSet → ℕ → ℕ
 codeWith n rs room =
@@ -88,12 +86,72 @@ refusal rs = codeWith 0 rs 0
 abbrev pub countWith : ℕ → ℕ → ℕ
 countWith code n = cond (eqb code 0 || eqb code 6 || eqb code 7) n 0
 
-unfoldable pub answerWith : ℕ → RuleSet → ℕ → Answer
-answerWith n rs room = answer (codeWith n rs room) (countWith (codeWith n rs room) n)
+-- ---- where the fault is
+
+-- entry, rule and condition, counted from 0
+abbrev pub fault : ℕ → ℕ → ℕ → Fault
+fault e r c = record { entry = e; rule = r; condition = c }
+
+-- what stands for a number that does not apply
+abbrev pub nowhere : ℕ
+nowhere = 0xffffffff
+
+abbrev pub noFault : Fault
+noFault = fault nowhere nowhere nowhere
+
+-- how many stand in front of the first that does not pass
+unfoldable pub firstFailing : {A : Type 0} → (A → Bool) → List A → ℕ
+firstFailing f [] = 0
+firstFailing f (x ∷ xs) = cond (f x) (suc (firstFailing f xs)) 0
+
+abbrev pub noEntry : Entry
+noEntry = record { number = 0; rules = [] }
+
+-- the first rule that does not pass, and what is told of it
+unfoldable pub faultyRule : (Rule → Bool) → (Rule → ℕ) → List Entry → Fault
+faultyRule f inside es =
+    let e : ℕ = firstFailing (λ (x : Entry). all f (x .rules)) es in
+    let rules : List Rule = getD es e noEntry .rules in
+    let r : ℕ = firstFailing f rules in
+    fault e r (inside (getD rules r []))
+
+-- how many entries stand in front of the first with which those up to it do not pass
+unfoldable pub firstWith : (List Entry → Bool) → List Entry → List Entry → ℕ
+firstWith f seen [] = 0
+firstWith f seen (e ∷ es) = cond (f (seen ++ (e ∷ []))) (suc (firstWith f (seen ++ (e ∷ [])) es)) 0
+
+-- whether the filter, its last return included, is short enough with these entries
+abbrev pub shortWith : RuleSet → List Entry → Bool
+shortWith rs es =
+    ltb (length (emitted (record { architecture = rs .architecture; mismatch = rs .mismatch; onMatch = rs .onMatch; entries = es }))) tooMany
+
+-- where an emitted filter is too long
+abbrev pub tooLong : RuleSet → Fault
+tooLong rs = fault (firstWith (shortWith rs) [] (rs .entries)) nowhere nowhere
+
+-- where the fault is that a code speaks of; `long` is told with 6
+unfoldable pub faultOf : Fault → ℕ → RuleSet → Fault
+faultOf long code rs =
+    cond (eqb code 2) (fault (firstWith ascending [] (rs .entries)) nowhere nowhere)
+    (cond (eqb code 4) (faultyRule hasConditions (λ r. nowhere) (rs .entries))
+    (cond (eqb code 5) (faultyRule (all indexTaken) (firstFailing indexTaken) (rs .entries))
+    (cond (eqb code 6) long
+    (cond (eqb code 8) (faultyRule (all fitsWidth) (firstFailing fitsWidth) (rs .entries))
+    noFault))))
+
+-- ---- the answer
+
+abbrev pub answer : ℕ → ℕ → Fault → Answer
+answer code count f = record { code = code; count = count; entry = f .entry; rule = f .rule; condition = f .condition }
+
+-- for a rule set whose filter has n instructions; `long` is where it is too long
+unfoldable pub answerWith : ℕ → Fault → RuleSet → ℕ → Answer
+answerWith n long rs room =
+    let code : ℕ = codeWith n rs room in answer code (countWith code n) (faultOf long code rs)
 
 abbrev pub answerRead : Option RuleSet → ℕ → Answer
-answerRead none room = answer 1 0
-answerRead (some rs) room = answerWith (length (emitted rs)) rs room
+answerRead none room = answer 1 0 noFault
+answerRead (some rs) room = answerWith (length (emitted rs)) (tooLong rs) rs room
 
 -- the answer for a byte string and a buffer of `room` bytes
 unfoldable pub answerOf : List ℕ → ℕ → Answer

@@ -35,11 +35,22 @@ pub struct Condition {
     pub mask: u64,
 }
 
-// What compiling answers: a number that says what became of it, and how many instructions the filter has.
+// Where in a rule set a fault is: the entry, the rule of the entry and the condition of the rule, counted from 0; ffffffff where a
+// number does not apply.
+pub struct Fault {
+    pub entry: u32,
+    pub rule: u32,
+    pub condition: u32,
+}
+
+// What compiling answers: a number that says what became of it, how many instructions the filter has, and where the fault is.
 #[repr(C)]
 pub struct Answer {
     pub code: u32,
     pub count: u32,
+    pub entry: u32,
+    pub rule: u32,
+    pub condition: u32,
 }
 
 // What asking about a call answers. Of a filter: 0 with the action and the number of instructions executed, or 1 for a filter that the

@@ -1,7 +1,7 @@
 -- What the proofs on buffers lean on: a store lets the pattern grow, a test that failed promises nothing, and an answer that was compared
 -- is the definition's. Assumes nothing.
 use Prim.Native.Nat.{ℕ, _+_, _<_}
-use mathlib.Core.Path.{_≡_, _∙_}
+use mathlib.Core.Path.{_≡_, sym, _∙_}
 use mathlib.Core.Bool.{true, false}
 use mathlib.Core.List.{List}
 use native.Mathlib.Omega.{arith}
@@ -9,7 +9,7 @@ use borrow.Author.Count.{below-more}
 use lib.ListN.{length, getD, set}
 use lib.Seq.{getD-set-same, getD-set-other}
 use Rattle.definitions.specs.declared.Answer.{Answer}
-use Rattle.definitions.specs.Answer.{answer, answerOf}
+use Rattle.definitions.specs.Answer.{answerOf}
 use Rattle.definitions.specs.Compiled.{Compiled}
 use Rattle.replay.specs.Pattern.{patternAt}
 
@@ -26,7 +26,16 @@ filled-more out i v h e l =
     (λ at below. getD-set-other out i at v 0 (λ q. omega arith) ∙ h at below)
     (getD-set-same out i v 0 l ∙ e)
 
-pub answered : (set before after : List ℕ) (r : Answer) (code count : ℕ)
-    → Compiled set before after r → length after ≡ length before → r .code ≡ code → r .count ≡ count
-    → answerOf set (length after) ≡ answer code count
-answered set before after r code count h l p q = rw (l, ← h .answer, ← p, ← q)
+pub answered : (set before after : List ℕ) (r wanted : Answer) → Compiled set before after r → length after ≡ length before → r ≡ wanted
+    → answerOf set (length after) ≡ wanted
+answered set before after r wanted h l p = rw l (sym (h .answer) ∙ p)
+
+abbrev made : ℕ → ℕ → ℕ → ℕ → ℕ → Answer
+made code count entry rule condition = record { code = code; count = count; entry = entry; rule = rule; condition = condition }
+
+alike : {a b c d e v w x y z : ℕ} → a ≡ v → b ≡ w → c ≡ x → d ≡ y → e ≡ z → made a b c d e ≡ made v w x y z
+alike code count entry rule condition = cc
+
+pub answers-same : (a b : Answer) → a .code ≡ b .code → a .count ≡ b .count → a .entry ≡ b .entry → a .rule ≡ b .rule → a .condition ≡ b .condition
+    → a ≡ b
+answers-same a b code count entry rule condition = alike code count entry rule condition

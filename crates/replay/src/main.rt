@@ -5,6 +5,7 @@ ghost use mathlib.Core.Bool.{true};
 ghost use Prim.Native.Nat.{_≤_};
 ghost use lib.ListN.{length};
 ghost use Rattle.replay.specs.Pattern as patterns;
+use definitions::Answer;
 use libc::STDIN_FILENO;
 use libc::STDOUT_FILENO;
 
@@ -56,17 +57,32 @@ fn untouched(out: &[u8], from: usize) -> bool
     true
 }
 
+fn same_answer(one: Answer, other: Answer) -> bool
+    ensures { λ r. ⌜ (r ≡ true → one ≡ other) ⌝ }
+{
+    if one.code != other.code {
+        return false;
+    }
+    if one.count != other.count {
+        return false;
+    }
+    if one.entry != other.entry {
+        return false;
+    }
+    if one.rule != other.rule {
+        return false;
+    }
+    one.condition == other.condition
+}
+
 // Whether a set compiles into a buffer as its vector says. The promise is that no vector passes unless all of it holds; one that
 // fails without a reason is seen in what is printed.
-fn holds(set: &[u8], filter: &[u8], code: u32, count: u32, out: &mut [u8]) -> bool
-    ensures { λ r. ⌜ (r ≡ true → patterns.Passed (now (set .entry)) (now (filter .entry)) code count (now (out .exit))) ⌝ }
+fn holds(set: &[u8], filter: &[u8], wanted: Answer, out: &mut [u8]) -> bool
+    ensures { λ r. ⌜ (r ≡ true → patterns.Passed (now (set .entry)) (now (filter .entry)) wanted (now (out .exit))) ⌝ }
 {
     fill(out);
     let answer = callfilter::callfilter_compile(set, out);
-    if answer.code != code {
-        return false;
-    }
-    if answer.count != count {
+    if !same_answer(answer, wanted) {
         return false;
     }
     let size = filter.len();
@@ -90,13 +106,23 @@ fn fetch(space: &mut [u8], count: usize) -> bool
     came == count
 }
 
+// The answer that a vector's first numbers tell.
+fn told(head: &[u8; 36]) -> Answer {
+    Answer {
+        code: bpf::u32_at(head, 12),
+        count: bpf::u32_at(head, 16),
+        entry: bpf::u32_at(head, 20),
+        rule: bpf::u32_at(head, 24),
+        condition: bpf::u32_at(head, 28),
+    }
+}
+
 // Reads a vector behind its first numbers, and tries it.
-fn vector(head: &[u8; 24], sets: &mut [u8], filters: &mut [u8], outs: &mut [u8]) -> Record {
+fn vector(head: &[u8; 36], sets: &mut [u8], filters: &mut [u8], outs: &mut [u8]) -> Record {
     let set_size = bpf::u32_at(head, 4) as usize;
     let room = bpf::u32_at(head, 8) as usize;
-    let code = bpf::u32_at(head, 12);
-    let count = bpf::u32_at(head, 16);
-    let filter_size = bpf::u32_at(head, 20) as usize;
+    let wanted = told(head);
+    let filter_size = bpf::u32_at(head, 32) as usize;
     if !fetch(sets, set_size) {
         return Record::Cut;
     }
@@ -109,8 +135,7 @@ fn vector(head: &[u8; 24], sets: &mut [u8], filters: &mut [u8], outs: &mut [u8])
     if holds(
         &sets[..set_size],
         &filters[..filter_size],
-        code,
-        count,
+        wanted,
         &mut outs[..room],
     ) {
         Record::Passed
@@ -125,8 +150,8 @@ fn next(
     filters: &mut [u8; LARGEST_FILTER],
     outs: &mut [u8; LARGEST_ROOM],
 ) -> Record {
-    let mut head = [0u8; 24];
-    if !fetch(&mut head, 24) {
+    let mut head = [0u8; 36];
+    if !fetch(&mut head, 36) {
         return Record::Cut;
     }
     let what = bpf::u32_at(&head, 0);

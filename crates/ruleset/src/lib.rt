@@ -102,7 +102,7 @@ fn condition_there(s: &[u8], at: usize) -> bool
 }
 
 // Whether a condition's value and mask have no more bits than it looks at.
-fn fits_width(q: Condition) -> bool
+pub fn fits_width(q: Condition) -> bool
     ensures { λ r. ⌜ r ≡ fitsWidth q ⌝ }
 {
     let width = q.width;
@@ -204,7 +204,7 @@ fn scan_rules(s: &[u8], n: u32, from: usize) -> Scan
 }
 
 // An entry without rules has three instructions where the others have their rules.
-fn body_length(n: u32, rules: usize) -> usize
+pub fn body_length(n: u32, rules: usize) -> usize
     ensures { λ r. ⌜ r ≡ bodyOr n rules ⌝ }
 {
     if n != 0 {

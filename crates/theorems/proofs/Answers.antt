@@ -9,18 +9,19 @@ use native.Mathlib.Omega.{arith}
 use lib.Dec.{eqb, leb, ltb}
 use lib.ListN.{length}
 use borrow.Author.Tests.{leb-false, ltb-false, not-false}
+use Rattle.definitions.specs.declared.Fault.{Fault}
 use Rattle.definitions.specs.declared.Answer.{Answer}
 use Rattle.definitions.specs.RuleSet.{RuleSet}
 use Rattle.definitions.specs.Emitted.{emitted}
 use Rattle.definitions.specs.Format.{read}
-use Rattle.definitions.specs.Answer.{ascending, rulesFilled, indicesTaken, widthsFit, tooMany, answer, codeWith, refusal, answerWith, answerRead, answerOf}
+use Rattle.definitions.specs.Answer.{ascending, rulesFilled, indicesTaken, widthsFit, tooMany, noFault, faultOf, tooLong, answer, codeWith, refusal, answerWith, answerRead, answerOf}
 
 pub record Compiles (set : List ℕ) (room : ℕ) (r : Answer) (rs : RuleSet) : Type 0 where
   pub from : read set ≡ some rs
   pub nothing : refusal rs ≡ 0
   pub short : length (emitted rs) < tooMany
   pub fits : 8 * length (emitted rs) ≤ room
-  pub said : r ≡ answer 0 (length (emitted rs))
+  pub said : r ≡ answer 0 (length (emitted rs)) noFault
 
 -- a test that led to another number than 0
 past : (t : Bool) (a b : ℕ) → (a ≡ 0 → ⊥) → cond t a b ≡ 0 → (t ≡ false) × (b ≡ 0)
@@ -67,15 +68,15 @@ nothing-refused n rs room z = rw (z .up, z .differ, z .filled, z .indexed, z .wh
 abbrev code : Answer → ℕ
 code r = r .code
 
-record Answered (n : ℕ) (rs : RuleSet) (room : ℕ) : Type 0 where
+record Answered (n : ℕ) (long : Fault) (rs : RuleSet) (room : ℕ) : Type 0 where
   nothing : refusal rs ≡ 0
   short : n < tooMany
   fits : 8 * n ≤ room
-  said : answerWith n rs room ≡ answer 0 n
+  said : answerWith n long rs room ≡ answer 0 n noFault
 
-answered : (n : ℕ) (rs : RuleSet) (room : ℕ) → answerWith n rs room .code ≡ 0 → Answered n rs room
-unfolding answerWith
-answered n rs room e =
+answered : (n : ℕ) (long : Fault) (rs : RuleSet) (room : ℕ) → answerWith n long rs room .code ≡ 0 → Answered n long rs room
+unfolding answerWith faultOf
+answered n long rs room e =
     let z = nothing-applies n rs room e in
     record {
       nothing = nothing-refused n rs room z;
@@ -87,7 +88,7 @@ answered n rs room e =
 by-read : (set : List ℕ) (room : ℕ) (r : Answer) (x : Option RuleSet) → read set ≡ x → r ≡ answerRead x room → r .code ≡ 0 → (rs : RuleSet) × Compiles set room r rs
 by-read set room r none e p z = absurd (let q = ap code p in omega arith)
 by-read set room r (some rs) e p z =
-    let a = answered (length (emitted rs)) rs room (sym (ap code p) ∙ z) in
+    let a = answered (length (emitted rs)) (tooLong rs) rs room (sym (ap code p) ∙ z) in
     (rs, record { from = e; nothing = a .nothing; short = a .short; fits = a .fits; said = p ∙ a .said })
 
 pub compiles : (set : List ℕ) (room : ℕ) (r : Answer) → r ≡ answerOf set room → r .code ≡ 0 → (rs : RuleSet) × Compiles set room r rs

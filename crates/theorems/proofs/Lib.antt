@@ -20,3 +20,4 @@ pub mod Answers
 pub mod Compiled
 pub mod Lengths
 pub mod Agree
+pub mod Named

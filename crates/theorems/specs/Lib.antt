@@ -2,3 +2,4 @@ pub mod Shape
 pub mod Length
 pub mod Statements
 pub mod Written
+pub mod Named

@@ -13,7 +13,7 @@ use Rattle.definitions.specs.declared.Cursor.{Cursor}
 use Rattle.definitions.specs.RuleSet.{Rule, Entry, RuleSet}
 use Rattle.definitions.specs.Emitted.{emitted}
 use Rattle.definitions.specs.Format.{InRange, encode, read}
-use Rattle.definitions.specs.Answer.{ascending, rulesFilled, indicesTaken, widthsFit, tooMany, answer, answerOf}
+use Rattle.definitions.specs.Answer.{ascending, rulesFilled, indicesTaken, widthsFit, tooMany, answerOf}
 use Rattle.definitions.specs.Parts.{lastRules}
 use Rattle.definitions.specs.Writers.{stateFits, Added, Made}
 use Rattle.definitions.specs.Readers.{headOf, entryOf, ruleOf, comparedOf, Left, HeadGiven, EntryGiven, RuleGiven, ConditionGiven}
@@ -39,8 +39,8 @@ Compiling =
     (rs : RuleSet) (out : List ℕ) (w : Writer) → Made rs out w
     → ascending (rs .entries) ≡ true → (rs .mismatch ≡ rs .onMatch → ⊥) → rulesFilled rs ≡ true → indicesTaken rs ≡ true → widthsFit rs ≡ true
     → (room : ℕ)
-    → answerOf (take (w .end) out) room
-    ≡ answer (cond (leb tooMany (length (emitted rs))) 6 (cond (ltb room (8 * length (emitted rs))) 7 0)) (length (emitted rs))
+    → (answerOf (take (w .end) out) room .code ≡ cond (leb tooMany (length (emitted rs))) 6 (cond (ltb room (8 * length (emitted rs))) 7 0))
+    × (answerOf (take (w .end) out) room .count ≡ length (emitted rs))
 
 -- a state that calls have made fits its buffer, says that no number is listed only where none is, and that no rule is open only where
 -- the number listed last has none

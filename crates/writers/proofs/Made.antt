@@ -8,11 +8,12 @@ use lib.Dec.{eqb, leb, ltb}
 use lib.ListN.{length, length-append, length-take}
 use borrow.Author.Tests.{le-leb, ne-eqb}
 use Rattle.definitions.specs.declared.Answer.{Answer}
+use Rattle.definitions.specs.declared.Fault.{Fault}
 use Rattle.definitions.specs.declared.Writer.{Writer}
 use Rattle.definitions.specs.RuleSet.{Entry, RuleSet}
 use Rattle.definitions.specs.Emitted.{emitted}
 use Rattle.definitions.specs.Format.{joined, encodeEntry, encode}
-use Rattle.definitions.specs.Answer.{ascending, rulesFilled, indicesTaken, widthsFit, tooMany, answer, codeWith, countWith, answerWith, answerOf}
+use Rattle.definitions.specs.Answer.{ascending, rulesFilled, indicesTaken, widthsFit, tooMany, codeWith, countWith, tooLong, answerWith, answerOf}
 use Rattle.definitions.specs.Parts.{lastRules}
 use Rattle.definitions.specs.Writers.{RuleAt, noRule, lastRule, EntryAt, noEntry, lastEntry, Holds, stateFits, Made, begun, taken, refused}
 use Rattle.theorems.specs.Written.{Spelled, ReadBack, OfTheFormat, Compiling, Fitting, NeverStarted}
@@ -50,9 +51,9 @@ not-one : (t : Bool) (a b : ℕ) → (a ≡ 1 → ⊥) → (b ≡ 1 → ⊥) →
 not-one true a b p q = p
 not-one false a b p q = q
 
-never-one : (n : ℕ) (rs : RuleSet) (room : ℕ) → answerWith n rs room .code ≡ 1 → ⊥
+never-one : (n : ℕ) (long : Fault) (rs : RuleSet) (room : ℕ) → answerWith n long rs room .code ≡ 1 → ⊥
 unfolding answerWith codeWith
-never-one n rs room =
+never-one n long rs room =
     not-one (not (ascending (rs .entries))) 2 _ (λ e. omega arith)
     (not-one (eqb (rs .mismatch) (rs .onMatch)) 3 _ (λ e. omega arith)
     (not-one (not (rulesFilled rs)) 4 _ (λ e. omega arith)
@@ -63,18 +64,18 @@ never-one n rs room =
 
 pub of-the-format : OfTheFormat
 unfolding answerOf
-of-the-format rs out w made room e = never-one (length (emitted rs)) rs room (rw (read-back rs out w made) at e)
+of-the-format rs out w made room e = never-one (length (emitted rs)) (tooLong rs) rs room (rw (read-back rs out w made) at e)
 
-counted : (n room : ℕ) (a b : Bool) → answer (cond a 6 (cond b 7 0)) (countWith (cond a 6 (cond b 7 0)) n) ≡ answer (cond a 6 (cond b 7 0)) n
-counted n room true b = refl
-counted n room false true = refl
-counted n room false false = refl
+counted : (n : ℕ) (a b : Bool) → countWith (cond a 6 (cond b 7 0)) n ≡ n
+counted n true b = refl
+counted n false true = refl
+counted n false false = refl
 
 pub compiling : Compiling
 unfolding answerOf answerWith codeWith
 compiling rs out w made up differ filled indexed whole room =
     rw (read-back rs out w made, up, ne-eqb (rs .mismatch) (rs .onMatch) differ, filled, indexed, whole)
-    (counted (length (emitted rs)) room (leb tooMany (length (emitted rs))) (ltb room (8 * length (emitted rs))))
+    (refl, counted (length (emitted rs)) (leb tooMany (length (emitted rs))) (ltb room (8 * length (emitted rs))))
 
 -- ---- the state fits
 

@@ -5,14 +5,16 @@
 
 use crate::sock_filter;
 
-// answers of compiling and deciding; 1, bytes that are not of the format, is what is left
+// answers of compiling; 1, bytes that are not of the format, is what is left, since buffers here are never too short
 pub(crate) const NOT_ASCENDING: u32 = 2;
 pub(crate) const EQUAL_ACTIONS: u32 = 3;
 pub(crate) const EMPTY_RULE: u32 = 4;
 pub(crate) const INDEX_ABOVE_FIVE: u32 = 5;
 pub(crate) const TOO_MANY_INSTRUCTIONS: u32 = 6;
-pub(crate) const BUFFER_TOO_SHORT: u32 = 7;
 pub(crate) const MORE_THAN_32_BITS: u32 = 8;
+
+// stands for an entry, a rule or a condition that an answer does not speak of
+pub(crate) const NOWHERE: u32 = u32::MAX;
 
 // refusals of a writer
 pub(crate) const NO_ROOM: u32 = 3;
@@ -23,6 +25,9 @@ pub(crate) const SET_TOO_LONG: u32 = 4;
 pub(crate) struct Answer {
     pub code: u32,
     pub count: u32,
+    pub entry: u32,
+    pub rule: u32,
+    pub condition: u32,
 }
 
 #[repr(C)]

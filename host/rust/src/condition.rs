@@ -72,15 +72,16 @@ impl Condition {
     /// use callfilter::{Condition, Error, Operator, Width};
     ///
     /// let error = Condition::new(6, Width::Dword, Operator::Eq, 1).unwrap_err();
-    /// assert_eq!(error.to_string(), "there is no argument 6: a call has the arguments 0 to 5");
-    /// assert_eq!(Condition::new(0, Width::Dword, Operator::Eq, 1 << 32), Err(Error::MoreThan32Bits(1 << 32)));
+    /// assert_eq!(error.to_string(), "there is no argument 6; a call has the arguments 0 to 5");
+    /// let error = Condition::new(0, Width::Dword, Operator::Eq, 1 << 32).unwrap_err();
+    /// assert_eq!(error, Error::MoreThan32Bits { number: 1 << 32, place: None });
     /// ```
     pub fn new(index: u8, width: Width, operator: Operator, value: u64) -> Result<Condition, Error> {
         if index > 5 {
-            return Err(Error::IndexAboveFive(index));
+            return Err(Error::IndexAboveFive { index, place: None });
         }
         if let Some(number) = [value, operator.mask()].into_iter().find(|number| width.low_bits(*number) != *number) {
-            return Err(Error::MoreThan32Bits(number));
+            return Err(Error::MoreThan32Bits { number, place: None });
         }
         Ok(Condition { index, width, operator, value })
     }

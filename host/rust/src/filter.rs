@@ -58,12 +58,13 @@ impl Filter {
     /// Compiles a set from its bytes, without reading it into a [`RuleSet`](crate::RuleSet) first.
     ///
     /// ```
-    /// use callfilter::{Error, Filter};
+    /// use callfilter::{Error, Filter, Place};
     ///
     /// let twice = [1, 0, 0, 0, 1, 0, 5, 0, 0, 0, 255, 127, 2, 0, 0, 0, 3, 0, 0, 0, 0, 0, 0, 0, 3, 0, 0, 0, 0, 0, 0, 0];
     /// let error = Filter::compile(&twice).unwrap_err();
-    /// assert_eq!(error, Error::NotAscending { number: 3, behind: 3 });
-    /// assert_eq!(error.to_string(), "the entry of call 3 stands behind that of call 3: numbers must be strictly ascending");
+    /// let place = Place { entry: 1, call: 3, rule: None, condition: None };
+    /// assert_eq!(error, Error::NotAscending { place, behind: 3 });
+    /// assert_eq!(error.to_string(), "entry 1 (call 3): the one before it lists call 3; numbers must be strictly ascending");
     /// ```
     pub fn compile(set: &[u8]) -> Result<Filter, Error> {
         let mut instructions = vec![sock_filter::default(); LONGEST];

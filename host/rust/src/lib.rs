@@ -55,7 +55,7 @@ pub use action::Action;
 pub use architecture::Architecture;
 pub use call::Call;
 pub use condition::{Condition, Operator, Width};
-pub use error::Error;
+pub use error::{Error, Place};
 pub use filter::{Filter, Outcome};
 pub use instruction::sock_filter;
 pub use rule_set::{Listed, Rule, RuleSet};

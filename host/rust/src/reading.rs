@@ -3,32 +3,33 @@
 use std::iter::from_fn;
 
 use crate::boundary::{self, Answer, Compared, Cursor};
-use crate::{Action, Architecture, Condition, Error, Operator, Rule, RuleSet, Width};
+use crate::{Action, Architecture, Condition, Error, Filter, Operator, Place, Rule, RuleSet, Width};
 
 /// The rule set that bytes stand for.
 pub(crate) fn set_of(bytes: &[u8]) -> Result<RuleSet, Error> {
-    let answer = boundary::compile(bytes, &mut []);
-    match answer.code {
-        // no room for a filter, or none that is short enough, says nothing against the set
-        boundary::TOO_MANY_INSTRUCTIONS | boundary::BUFFER_TOO_SHORT => Parts::read(bytes).typed(),
-        _ => Err(refusal(answer, bytes)),
+    match Filter::compile(bytes) {
+        // that no filter is short enough says nothing against the set
+        Ok(_) | Err(Error::TooManyInstructions { .. }) => Parts::read(bytes).typed(),
+        Err(refused) => Err(refused),
     }
 }
 
-/// What an answer other than 0 says of a set, with the first place in it that it is about.
+/// What an answer other than 0 says of a set. It says where; what stands there is looked up.
 pub(crate) fn refusal(answer: Answer, set: &[u8]) -> Error {
-    if answer.code == boundary::TOO_MANY_INSTRUCTIONS {
-        return Error::TooManyInstructions(answer.count);
-    }
     let parts = Parts::read(set);
-    let found = match answer.code {
-        boundary::NOT_ASCENDING => parts.not_ascending(),
-        boundary::EQUAL_ACTIONS => Action::from_word(parts.on_match).map(Error::EqualActions),
-        boundary::EMPTY_RULE => parts.empty_rule(),
-        boundary::INDEX_ABOVE_FIVE | boundary::MORE_THAN_32_BITS => parts.typed().err(),
-        _ => None,
-    };
-    found.unwrap_or(Error::NotOfTheFormat)
+    match answer.code {
+        boundary::NOT_ASCENDING => {
+            let place = parts.place(answer);
+            Error::NotAscending { place, behind: parts.entries[place.entry - 1].number }
+        }
+        boundary::EQUAL_ACTIONS => Error::EqualActions(Action::from_word(parts.on_match).expect("a set has no other actions")),
+        boundary::EMPTY_RULE => Error::EmptyRule(parts.place(answer)),
+        boundary::INDEX_ABOVE_FIVE | boundary::MORE_THAN_32_BITS => parts
+            .condition(answer.entry as usize, answer.rule as usize, answer.condition as usize)
+            .expect_err("no condition can be made of what compiling refuses"),
+        boundary::TOO_MANY_INSTRUCTIONS => Error::TooManyInstructions { count: answer.count, place: parts.place(answer) },
+        _ => Error::NotOfTheFormat,
+    }
 }
 
 struct Entry {
@@ -51,16 +52,21 @@ impl Parts {
         Parts { architecture: head.architecture, mismatch: head.mismatch, on_match: head.on_match, entries }
     }
 
-    fn not_ascending(&self) -> Option<Error> {
-        let pair = self.entries.windows(2).find(|pair| pair[0].number >= pair[1].number)?;
-        Some(Error::NotAscending { number: pair[1].number, behind: pair[0].number })
+    /// The place that an answer says, with the number of its call.
+    fn place(&self, answer: Answer) -> Place {
+        let told = |number: u32| (number != boundary::NOWHERE).then_some(number as usize);
+        let entry = answer.entry as usize;
+        Place { entry, call: self.entries[entry].number, rule: told(answer.rule), condition: told(answer.condition) }
     }
 
-    fn empty_rule(&self) -> Option<Error> {
-        self.entries.iter().find_map(|entry| {
-            let rule = entry.rules.iter().position(Vec::is_empty)?;
-            Some(Error::EmptyRule { call: entry.number, rule })
-        })
+    /// Its error has its place.
+    fn condition(&self, entry: usize, rule: usize, condition: usize) -> Result<Condition, Error> {
+        let listed = &self.entries[entry];
+        let read = &listed.rules[rule][condition];
+        let known = (Width::from_number(read.width), Operator::from_number(read.operator, read.mask));
+        let (Some(width), Some(operator)) = known else { return Err(Error::NotOfTheFormat) };
+        let place = Place { entry, call: listed.number, rule: Some(rule), condition: Some(condition) };
+        Condition::new(read.index, width, operator, read.value).map_err(|refused| refused.at(place))
     }
 
     /// Its error is the first condition's that cannot be made.
@@ -68,23 +74,15 @@ impl Parts {
         let known = (Architecture::from_number(self.architecture), Action::from_word(self.mismatch), Action::from_word(self.on_match));
         let (Some(architecture), Some(mismatch), Some(on_match)) = known else { return Err(Error::NotOfTheFormat) };
         let mut set = RuleSet::new(architecture, mismatch, on_match);
-        for entry in &self.entries {
-            let mut listed = set.call(entry.number);
-            for rule in &entry.rules {
-                listed = listed.rule(&typed_rule(rule)?);
+        for (entry, read) in self.entries.iter().enumerate() {
+            let mut listed = set.call(read.number);
+            for (rule, conditions) in read.rules.iter().enumerate() {
+                let made: Result<Rule, Error> = (0..conditions.len()).map(|condition| self.condition(entry, rule, condition)).collect();
+                listed = listed.rule(&made?);
             }
         }
         Ok(set)
     }
-}
-
-fn typed_rule(rule: &[Compared]) -> Result<Rule, Error> {
-    let typed = |read: &Compared| {
-        let known = (Width::from_number(read.width), Operator::from_number(read.operator, read.mask));
-        let (Some(width), Some(operator)) = known else { return Err(Error::NotOfTheFormat) };
-        Condition::new(read.index, width, operator, read.value)
-    };
-    rule.iter().map(typed).collect()
 }
 
 struct Reader<'a> {

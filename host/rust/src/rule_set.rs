@@ -102,8 +102,11 @@ impl RuleSet {
     ///
     /// let mut set = RuleSet::new(Architecture::X86_64, Action::Log, Action::Allow);
     /// assert_eq!(set.compile()?.len(), 4);
-    /// assert_eq!(set.call(7).rule(&[]).compile(), Err(Error::EmptyRule { call: 7, rule: 0 }));
-    ///
+    /// let error = set.call(7).rule(&[]).compile().unwrap_err();
+    /// assert_eq!(
+    ///     error.to_string(),
+    ///     "entry 0 (call 7), rule 0: it has no conditions; give it at least one, or the call no rules if it is to match always"
+    /// );
     /// let error = RuleSet::new(Architecture::X86_64, Action::Allow, Action::Allow).compile().unwrap_err();
     /// assert_eq!(error.to_string(), "the action is allow whether a call matches or not: a filter needs two different actions");
     /// # Ok::<(), Error>(())
@@ -129,7 +132,8 @@ impl RuleSet {
         let set = self.to_bytes()?;
         let ended = boundary::decide(&set, &call.to_bytes());
         if ended.code != 0 {
-            return Err(reading::refusal(boundary::Answer { code: ended.code, count: 0 }, &set));
+            // deciding says no place, compiling does
+            return Err(Filter::compile(&set).expect_err("what is not decided is not compiled"));
         }
         Ok(Action::from_word(ended.action).expect("a set has no other actions"))
     }

@@ -80,7 +80,7 @@ fn every_operator_and_width_compares_as_it_says() {
         for operator in [Operator::Eq, Operator::Ne, Operator::Ge, Operator::Gt, Operator::Le, Operator::Lt, Operator::MaskedEq(cut(mask))] {
             for (value, argument) in numbers.iter().flat_map(|value| numbers.iter().map(move |argument| (*value, *argument))) {
                 if cut(value) != value {
-                    assert_eq!(Condition::new(5, width, operator, value), Err(Error::MoreThan32Bits(value)));
+                    assert_eq!(Condition::new(5, width, operator, value), Err(Error::MoreThan32Bits { number: value, place: None }));
                     continue;
                 }
                 let (one, two) = (cut(argument), value);

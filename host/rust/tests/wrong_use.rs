@@ -1,6 +1,6 @@
 //! What is wrong is refused in words, and no bytes, whatever they are, do harm.
 
-use callfilter::{Action, Architecture, Call, Condition, Error, Filter, Operator, RuleSet, Width};
+use callfilter::{Action, Architecture, Call, Condition, Error, Filter, Operator, Place, RuleSet, Width};
 
 const ACTIONS: (Action, Action) = (Action::Errno(1), Action::Allow);
 
@@ -12,11 +12,26 @@ fn condition() -> Condition {
     Condition::new(0, Width::Dword, Operator::Eq, 1).unwrap()
 }
 
+// where in the bytes of `with_rules` its conditions begin, with their rules and places in these; all belong to call 5, the second entry
+const CONDITIONS: [(usize, usize, usize); 3] = [(36, 0, 0), (60, 0, 1), (88, 1, 0)];
+
 fn with_rules() -> Vec<u8> {
     let mut set = plain();
     let masked = Condition::new(3, Width::Qword, Operator::MaskedEq(6), 2).unwrap();
     set.call(3).call(5).rule(&[condition(), masked]).rule(&[condition()]).call(9);
     set.to_bytes().unwrap()
+}
+
+fn in_entry(entry: usize, call: u32) -> Place {
+    Place { entry, call, rule: None, condition: None }
+}
+
+fn in_rule(entry: usize, call: u32, rule: usize) -> Place {
+    Place { rule: Some(rule), ..in_entry(entry, call) }
+}
+
+fn in_condition(entry: usize, call: u32, rule: usize, condition: usize) -> Place {
+    Place { condition: Some(condition), ..in_rule(entry, call, rule) }
 }
 
 fn both(bytes: &[u8]) -> Error {
@@ -36,10 +51,19 @@ fn bytes_that_are_no_set_are_refused() {
 
 #[test]
 fn numbers_that_do_not_ascend_are_named() {
-    for (number, expected) in [(3, 3), (2, 2), (0, 0)] {
+    for number in [3, 2, 0] {
         let mut bytes = with_rules();
         bytes[24] = number;
-        assert_eq!(both(&bytes), Error::NotAscending { number: expected, behind: 3 });
+        assert_eq!(both(&bytes), Error::NotAscending { place: in_entry(1, number.into()), behind: 3 });
+        // a second one behind it
+        bytes[112] = 0;
+        assert_eq!(both(&bytes).place(), Some(in_entry(1, number.into())));
+    }
+    // the last entry's own number, and the number before it
+    for (place, number, last) in [(112, 5, 5), (112, 4, 4), (24, 9, 9)] {
+        let mut bytes = with_rules();
+        bytes[place] = number;
+        assert_eq!(both(&bytes), Error::NotAscending { place: in_entry(2, last), behind: if place == 24 { 9 } else { 5 } });
     }
 }
 
@@ -55,13 +79,13 @@ fn equal_actions_are_named() {
 fn a_rule_without_conditions_is_named() {
     let mut set = plain();
     set.call(3).call(5).rule(&[condition()]).rule(&[]);
-    let refused = Error::EmptyRule { call: 5, rule: 1 };
+    let refused = Error::EmptyRule(in_rule(1, 5, 1));
     assert_eq!(set.compile().as_ref(), Err(&refused));
     assert_eq!(set.decide(&Call::new(Architecture::X86_64, 0, [0; 6])).as_ref(), Err(&refused));
     assert_eq!(both(&set.to_bytes().unwrap()), refused);
     assert_eq!(
         refused.to_string(),
-        "rule 1 of call 5 has no conditions: give it at least one, or the call no rules if it is to match always"
+        "entry 1 (call 5), rule 1: it has no conditions; give it at least one, or the call no rules if it is to match always"
     );
 }
 
@@ -87,28 +111,46 @@ fn an_argument_that_calls_have_not_is_named() {
     for index in 0..=255 {
         let made = Condition::new(index, Width::Qword, Operator::Ne, 0);
         assert_eq!(made.is_ok(), index < 6);
-        let mut bytes = with_rules();
-        bytes[36] = index;
         if index > 5 {
-            assert_eq!(made, Err(Error::IndexAboveFive(index)));
-            assert_eq!(both(&bytes), Error::IndexAboveFive(index));
-        } else {
-            assert_eq!(RuleSet::from_bytes(&bytes).unwrap().to_bytes(), Ok(bytes));
+            assert_eq!(made, Err(Error::IndexAboveFive { index, place: None }));
+        }
+        for (place, rule, condition) in CONDITIONS {
+            let mut bytes = with_rules();
+            bytes[place] = index;
+            if index > 5 {
+                let refused = Error::IndexAboveFive { index, place: Some(in_condition(1, 5, rule, condition)) };
+                assert_eq!(both(&bytes), refused);
+                // a second one behind it
+                bytes[88] = index;
+                assert_eq!(both(&bytes), refused);
+            } else {
+                assert_eq!(RuleSet::from_bytes(&bytes).unwrap().to_bytes(), Ok(bytes));
+            }
         }
     }
 }
 
 #[test]
 fn a_dword_condition_of_more_than_32_bits_is_named() {
-    // the first condition's value, of call 5: a dword
-    for (place, number) in [(48, 1 << 32 | 1), (51, 1 << 56 | 1)] {
+    // value and mask begin 8 and 16 bytes behind the condition; the second one is a masked qword
+    for ((start, rule, condition), at, number) in [
+        (CONDITIONS[0], 12, 1 << 32 | 1),
+        (CONDITIONS[0], 15, 1 << 56 | 1),
+        (CONDITIONS[1], 12, 1 << 32 | 2),
+        (CONDITIONS[1], 20, 1 << 32 | 6),
+        (CONDITIONS[2], 12, 1 << 32 | 1),
+    ] {
         let mut bytes = with_rules();
-        bytes[place] = 1;
-        assert_eq!(both(&bytes), Error::MoreThan32Bits(number));
+        (bytes[start + 1], bytes[start + at]) = (4, 1);
+        let refused = Error::MoreThan32Bits { number, place: Some(in_condition(1, 5, rule, condition)) };
+        assert_eq!(both(&bytes), refused);
+        // a second one behind it
+        bytes[CONDITIONS[2].0 + 12] = 1;
+        assert_eq!(both(&bytes), refused);
     }
     for width in [Width::Dword, Width::Qword] {
         let made = Condition::new(0, width, Operator::MaskedEq(1 << 33), 0);
-        assert_eq!(made.err(), (width == Width::Dword).then_some(Error::MoreThan32Bits(1 << 33)));
+        assert_eq!(made.err(), (width == Width::Dword).then_some(Error::MoreThan32Bits { number: 1 << 33, place: None }));
     }
 }
 
@@ -125,11 +167,21 @@ fn a_filter_that_is_too_long_is_counted() {
     }
     longest.call(816).rule(&[Condition::new(0, Width::Qword, Operator::MaskedEq(1), 1).unwrap()]);
     assert_eq!(longest.compile().unwrap().len(), 4096);
+    for (number, count) in [(900, 4101), (901, 4106)] {
+        assert_eq!(longest.call(number).compile(), Err(Error::TooManyInstructions { count, place: in_entry(817, 900) }));
+    }
     set.call(818);
-    assert_eq!(set.compile(), Err(Error::TooManyInstructions(4100)));
+    assert_eq!(set.compile(), Err(Error::TooManyInstructions { count: 4100, place: in_entry(818, 818) }));
     // it has a meaning and a byte form all the same
     assert_eq!(set.decide(&Call::new(Architecture::X86_64, 818, [0; 6])), Ok(Action::Allow));
-    assert_eq!(RuleSet::from_bytes(&set.to_bytes().unwrap()), Ok(set));
+    assert_eq!(RuleSet::from_bytes(&set.to_bytes().unwrap()).as_ref(), Ok(&set));
+    // but with a number that a condition does not look at whole it is no set
+    let mut bytes = set.call(900).rule(&[condition()]).to_bytes().unwrap();
+    let value = bytes.len() - 16;
+    bytes[value + 4] = 1;
+    assert_eq!(Filter::compile(&bytes), Err(Error::TooManyInstructions { count: 4107, place: in_entry(818, 818) }));
+    let refused = Error::MoreThan32Bits { number: 1 << 32 | 1, place: Some(in_condition(819, 900, 0, 0)) };
+    assert_eq!(RuleSet::from_bytes(&bytes), Err(refused));
 }
 
 #[test]
@@ -216,11 +268,19 @@ fn errors_are_told_as_errors() {
     }
     assert_eq!(asked("AARCH64").unwrap(), Architecture::Aarch64);
     assert!(asked("").unwrap_err().to_string().contains("x86_64 or aarch64 or riscv64"));
+    let place = in_condition(3, 257, 0, 2);
     let told = [
         (Error::NotOfTheFormat, "these bytes are no rule set"),
-        (Error::NotAscending { number: 2, behind: 3 }, "numbers must be strictly ascending"),
+        (Error::NotAscending { place: in_entry(1, 2), behind: 3 }, "entry 1 (call 2): the one before it lists call 3; numbers must"),
         (Error::EqualActions(Action::Log), "the action is log whether a call matches or not"),
-        (Error::TooManyInstructions(4100), "the filter would have 4100 instructions, and at most 4096 are compiled"),
+        (Error::IndexAboveFive { index: 7, place: Some(place) }, "entry 3 (call 257), rule 0, condition 2: there is no argument 7"),
+        (Error::IndexAboveFive { index: 7, place: None }, "there is no argument 7; a call has the arguments 0 to 5"),
+        (
+            Error::MoreThan32Bits { number: 1 << 32, place: Some(place) },
+            "entry 3 (call 257), rule 0, condition 2: a dword condition looks at 32 bits, and 0x100000000 has more",
+        ),
+        (Error::TooManyInstructions { count: 4100, place: in_entry(818, 818) }, "entry 818 (call 818): with it the filter gets too long"),
+        (Error::TooManyInstructions { count: 4100, place: in_entry(818, 818) }, "4100 instructions, and at most 4096 are compiled"),
         (Error::AlwaysAndByRules(5), "call 5 is listed without rules, to match always, and once more with rules"),
         (Error::SetTooLong, "more than 1 MiB"),
         (Error::NotTaken, "the kernel would not take these bytes as a filter"),

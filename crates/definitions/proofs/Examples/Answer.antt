@@ -4,16 +4,17 @@ use mathlib.Core.Bool.{Bool, true, false, cond, not, _&&_}
 use mathlib.Core.List.{List, [], _∷_, _++_}
 use mathlib.Core.Option.{Option, none, some}
 use Prim.Native.Nat.{ℕ, _+_, _-_, _^_}
-use lib.Dec.{eqb}
+use lib.Dec.{eqb, ltb}
 use lib.ListN.{length, take, replicate, set as put}
 use Rattle.definitions.specs.declared.Operator.the-variants.{Eq, Ge, Gt, Le, Lt, MaskedEq, Ne}
 use Rattle.definitions.specs.declared.Width.the-variants.{Dword, Qword}
 use Rattle.definitions.specs.declared.Condition.{Condition}
+use Rattle.definitions.specs.declared.Fault.{Fault}
 use Rattle.definitions.specs.declared.Answer.{Answer}
 use Rattle.definitions.specs.Word.{bytesOf, numberOf, numberAt}
 use Rattle.definitions.specs.RuleSet.{x86-64, aarch64, architectureWord, oneOf, isAction, Rule, Entry, RuleSet}
 use Rattle.definitions.specs.Format.{architectureNumber, widthNumber, operatorNumber, encodeCondition, encodeRule, encodeEntry, encode, architectureOf, widthOf, operatorOf, maskTaken, times, conditionAt, ruleAt, entryAt, read}
-use Rattle.definitions.specs.Answer.{ascending, all, codeWith, answerWith, answerOf}
+use Rattle.definitions.specs.Answer.{ascending, all, codeWith, fault, nowhere, noFault, firstFailing, faultyRule, firstWith, shortWith, faultOf, answer, answerWith, answerOf}
 use Rattle.definitions.specs.Emitted.{highTests, lowTests, highPart, lowPart, conditionCode, helpers, near, stepCode, stepDistance, conditionsCode, distance, ruleCode, rulesCode, bodyCode, entryCode, entriesCode, numbersCode, emitted}
 use Rattle.definitions.proofs.Examples.RuleSet.{compared, allow, errno}
 
@@ -116,7 +117,68 @@ table-holds = refl
 abbrev smallest : RuleSet
 smallest = record { architecture = x86-64; mismatch = errno 1; onMatch = allow; entries = [] }
 
-limit : (answerWith 4096 smallest 40000 ≡ record { code = 0; count = 4096 }) × (answerWith 4097 smallest 40000 ≡ record { code = 6; count = 4097 })
-    × (answerWith 4097 smallest 0 ≡ record { code = 6; count = 4097 }) × (answerWith 4096 smallest 32767 ≡ record { code = 7; count = 4096 })
-unfolding answerWith codeWith ascending
+abbrev somewhere : Fault
+somewhere = fault 7 nowhere nowhere
+
+limit : (answerWith 4096 somewhere smallest 40000 ≡ answer 0 4096 noFault) × (answerWith 4097 somewhere smallest 40000 ≡ answer 6 4097 somewhere)
+    × (answerWith 4097 somewhere smallest 0 ≡ answer 6 4097 somewhere) × (answerWith 4096 somewhere smallest 32767 ≡ answer 7 4096 noFault)
+unfolding answerWith codeWith ascending faultOf
 limit = (refl, refl, refl, refl)
+
+-- ---- where the fault is
+
+-- a set, the code that is asked about, and the place
+record Faulty : Type 0 where
+  entries : List Entry
+  code : ℕ
+  place : Fault
+
+abbrev faulty : List Entry → ℕ → Fault → Faulty
+faulty es k f = record { entries = es; code = k; place = f }
+
+abbrev entry : ℕ → List Rule → Entry
+entry n rules = record { number = n; rules = rules }
+
+abbrev good : Condition
+good = compared Eq Dword 5 1 0
+
+abbrev bad : Condition
+bad = compared Eq Dword 6 1 0
+
+abbrev wide : Condition
+wide = compared Eq Dword 5 (2 ^ 32) 0
+
+abbrev sameFault : Fault → Fault → Bool
+sameFault a b = eqb (a .entry) (b .entry) && eqb (a .rule) (b .rule) && eqb (a .condition) (b .condition)
+
+abbrev faults : List Faulty
+faults =
+    faulty (plain 1 ∷ plain 3 ∷ plain 3 ∷ plain 2 ∷ []) 2 (fault 2 nowhere nowhere)
+    ∷ faulty (plain 9 ∷ plain 3 ∷ []) 2 (fault 1 nowhere nowhere)
+    ∷ faulty (entry 1 ((good ∷ []) ∷ []) ∷ entry 2 ((good ∷ []) ∷ [] ∷ [] ∷ []) ∷ entry 3 ([] ∷ []) ∷ []) 4 (fault 1 1 nowhere)
+    ∷ faulty (plain 0 ∷ entry 1 ((good ∷ []) ∷ (good ∷ good ∷ bad ∷ bad ∷ []) ∷ (bad ∷ []) ∷ []) ∷ []) 5 (fault 1 1 2)
+    ∷ faulty (entry 1 ((bad ∷ wide ∷ []) ∷ []) ∷ []) 8 (fault 0 0 1)
+    -- the other answers have none
+    ∷ faulty (plain 1 ∷ plain 1 ∷ []) 0 noFault
+    ∷ faulty (plain 1 ∷ plain 1 ∷ []) 1 noFault
+    ∷ faulty (plain 1 ∷ plain 1 ∷ []) 3 noFault
+    ∷ faulty (plain 1 ∷ plain 1 ∷ []) 7 noFault
+    ∷ []
+
+abbrev faultyHolds : Faulty → Bool
+faultyHolds w =
+    sameFault (faultOf somewhere (w .code) (record { architecture = x86-64; mismatch = errno 1; onMatch = allow; entries = w .entries })) (w .place)
+
+places : all faultyHolds faults ≡ true
+unfolding faultOf firstWith ascending faultyRule firstFailing
+places = refl
+
+-- 4,096 instructions are short enough, one more is not: five for each number, five around them, eleven and twelve for the last
+longest : (shortWith smallest (replicate 816 (plain 0) ++ ruled (compared MaskedEq Qword 0 1 1 ∷ [])) ≡ true)
+    × (shortWith smallest (replicate 816 (plain 0) ++ ruled (compared MaskedEq Dword 0 1 1 ∷ compared Eq Qword 0 1 0 ∷ [])) ≡ false)
+unfolding emitted numbersCode entriesCode entryCode bodyCode rulesCode ruleCode conditionsCode distance stepCode stepDistance helpers near conditionCode highPart lowPart highTests lowTests
+longest = (refl, refl)
+
+too-long : firstWith (λ (es : List Entry). ltb (length es) 3) [] (replicate 5 (plain 0)) ≡ 2
+unfolding firstWith
+too-long = refl

@@ -15,6 +15,9 @@ fill-requires c κs = search needs
 callfilter-compile-requires : tie.Need-callfilter-compile-requires
 callfilter-compile-requires c κs = search needs
 
+same-answer-requires : tie.Need-same-answer-requires
+same-answer-requires c κs = search needs
+
 same-length : tie.Need-same-length
 same-length c = search needs
 
@@ -27,12 +30,6 @@ same-length-2 c = search needs
 returns-2 : tie.Need-returns-2
 returns-2 c = never
 
-same-length-3 : tie.Need-same-length-3
-same-length-3 c = search needs
-
-returns-3 : tie.Need-returns-3
-returns-3 c = never
-
 slice-reshare-prefix-same : tie.Need-slice-reshare-prefix-same
 slice-reshare-prefix-same c = search needs
 
@@ -42,23 +39,24 @@ slice-aggregate-same c = simp length-take (omega arith)
 same-requires : tie.Need-same-requires
 same-requires c κs = search needs
 
-same-length-4 : tie.Need-same-length-4
-same-length-4 c = search needs
+same-length-3 : tie.Need-same-length-3
+same-length-3 c = search needs
 
-returns-4 : tie.Need-returns-4
-returns-4 c = never
+returns-3 : tie.Need-returns-3
+returns-3 c = never
 
 untouched-requires : tie.Need-untouched-requires
 untouched-requires c κs = search needs
 
-same-length-5 : tie.Need-same-length-5
-same-length-5 c = search needs
+same-length-4 : tie.Need-same-length-4
+same-length-4 c = search needs
 
-returns-5 : tie.Need-returns-5
-returns-5 c =
+returns-4 : tie.Need-returns-4
+returns-4 c =
     let same = c .before .before .before .same in
-    let counted = c .before .before .before .before .before .before in
-    let compiled = counted .before .before .before .before .before .before in
+    let compared = c .before .before .before .before .before .before in
+    let alike = compared .before .same-answer in
+    let compiled = compared .before .before .before .before in
     let args = compiled .before .before .before .before .before .before .before .before .before .args in
     λ passed.
     record {
@@ -69,12 +67,10 @@ returns-5 c =
           _
           (compiled .callfilter-compile .result)
           _
-          _
           (compiled .callfilter-compile .ensures)
           (compiled .callfilter-compile .kept .1 .0)
-          (counted .before .before .if1 .left)
-          (counted .if2 .left);
-      written = same .ensures .0 (not-false (same .result) (c .before .before .if4 .left));
+          (alike .ensures (not-false (alike .result) (compared .if1 .left)));
+      written = same .ensures .0 (not-false (same .result) (c .before .before .if3 .left));
       untouched = c .untouched .ensures passed;
     }
 
@@ -84,17 +80,16 @@ holds-spec =
     (tie.spec
     fill-requires
     callfilter-compile-requires
+    same-answer-requires
     same-length
     returns
     same-length-2
     returns-2
-    same-length-3
-    returns-3
     slice-reshare-prefix-same
     slice-aggregate-same
     same-requires
-    same-length-4
-    returns-4
+    same-length-3
+    returns-3
     untouched-requires
-    same-length-5
-    returns-5)
+    same-length-4
+    returns-4)

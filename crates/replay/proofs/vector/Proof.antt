@@ -18,14 +18,11 @@ u32-at-requires-2 c κs = search needs
 cast-room : tie.Need-cast-room
 cast-room c = search needs
 
+told-requires : tie.Need-told-requires
+told-requires c κs = search needs
+
 u32-at-requires-3 : tie.Need-u32-at-requires-3
 u32-at-requires-3 c κs = search needs
-
-u32-at-requires-4 : tie.Need-u32-at-requires-4
-u32-at-requires-4 c κs = search needs
-
-u32-at-requires-5 : tie.Need-u32-at-requires-5
-u32-at-requires-5 c κs = search needs
 
 cast-filter-size : tie.Need-cast-filter-size
 cast-filter-size c = search needs
@@ -125,9 +122,8 @@ vector-spec =
     cast-set-size
     u32-at-requires-2
     cast-room
+    told-requires
     u32-at-requires-3
-    u32-at-requires-4
-    u32-at-requires-5
     cast-filter-size
     fetch-requires
     same-length
