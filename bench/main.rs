@@ -1,5 +1,6 @@
-// Times the proved compiler beside the real seccompiler 0.5.0, in one process and on the same sets. All of it takes turns, batch by batch,
-// and the best batch of each counts, so that what else the machine does falls on all alike and mostly falls away.
+// Times the proved compiler beside the real seccompiler 0.5.0, and its two forms of filter beside each other, in one process and on the
+// same sets. All of it takes turns, batch by batch, and the best batch of each counts, so that what else the machine does falls on all
+// alike and mostly falls away.
 //
 // What is timed:
 //   ours     one call from the set's bytes into a lent buffer, which is not cleared in between
@@ -32,17 +33,31 @@ struct Answer {
     condition: u32,
 }
 
+#[repr(C)]
+struct Outcome {
+    code: u32,
+    action: u32,
+    steps: u32,
+}
+
 extern "C" {
     fn callfilter_compile(set: *const u8, set_len: usize, out: *mut u8, out_len: usize) -> Answer;
+    fn callfilter_compile_search(set: *const u8, set_len: usize, out: *mut u8, out_len: usize) -> Answer;
+    fn callfilter_run(filter: *const u8, filter_len: usize, call: *const u8, call_len: usize) -> Outcome;
 }
 
 const LONGEST_FILTER: usize = 8 * 4096;
 const TIME_FOR_A_SET: Duration = Duration::from_millis(1500);
+const TIME_FOR_FORMS: Duration = Duration::from_millis(500);
 const LIMIT: f64 = 5e6;
 const AUDIT_ARCH_X86_64: u32 = 0xc000_003e;
 
 fn ours(set: &[u8], out: &mut [u8]) -> Answer {
     unsafe { callfilter_compile(set.as_ptr(), set.len(), out.as_mut_ptr(), out.len()) }
+}
+
+fn search(set: &[u8], out: &mut [u8]) -> Answer {
+    unsafe { callfilter_compile_search(set.as_ptr(), set.len(), out.as_mut_ptr(), out.len()) }
 }
 
 struct Reader<'a>(&'a [u8]);
@@ -100,6 +115,11 @@ fn timed(best: &mut f64, batch: usize, work: impl FnOnce()) {
     *best = best.min(start.elapsed().as_nanos() as f64 / batch as f64);
 }
 
+// small enough that a batch's clones stay in the cache, large enough that the clock does not count
+fn batch_of(set: &[u8]) -> usize {
+    (65536 / set.len()).clamp(4, 256)
+}
+
 fn compare(name: &str, set: &[u8]) {
     let filter = filter_from(set).expect("a set of the format");
     let program = BpfProgram::try_from(filter.clone()).expect("a filter");
@@ -109,8 +129,7 @@ fn compare(name: &str, set: &[u8]) {
     assert!(answer.code == 0 && out[..size] == as_bytes(&program), "{name}: the filters differ");
     let mut copied = vec![0; size];
 
-    // small enough that a batch's clones stay in the cache, large enough that the clock does not count
-    let batch = (65536 / set.len()).clamp(4, 256);
+    let batch = batch_of(set);
     let (mut by_ours, mut by_objects, mut by_bytes, mut by_copy) = (f64::MAX, f64::MAX, f64::MAX, f64::MAX);
     let start = Instant::now();
     while start.elapsed() < TIME_FOR_A_SET {
@@ -150,63 +169,97 @@ fn compare(name: &str, set: &[u8]) {
     );
 }
 
-// how many instructions of a filter a call with a number and arguments runs: of the codes that compiling emits
-fn instructions_run(program: &BpfProgram, number: u32, argument: u64) -> usize {
-    let mut words = [0; 16];
-    (words[0], words[1]) = (number, AUDIT_ARCH_X86_64);
-    for place in (4..16).step_by(2) {
-        (words[place], words[place + 1]) = (argument as u32, (argument >> 32) as u32);
+// a set's filter in one form, and how long compiling takes
+struct Form {
+    compile: fn(&[u8], &mut [u8]) -> Answer,
+    filter: Vec<u8>,
+    time: f64,
+}
+
+impl Form {
+    fn new(compile: fn(&[u8], &mut [u8]) -> Answer, set: &[u8]) -> Form {
+        let mut filter = vec![0; LONGEST_FILTER];
+        let answer = compile(set, &mut filter);
+        assert!(answer.code == 0, "a set that compiles");
+        filter.truncate(8 * answer.count as usize);
+        Form { compile, filter, time: f64::MAX }
     }
-    let (mut at, mut run, mut loaded) = (0, 0, 0);
-    loop {
-        let step = &program[at];
-        let jump = |taken: bool| usize::from(if taken { step.jt } else { step.jf });
-        run += 1;
-        at += 1;
-        match step.code {
-            0x20 => loaded = words[step.k as usize / 4],
-            0x54 => loaded &= step.k,
-            0x05 => at += step.k as usize,
-            0x15 => at += jump(loaded == step.k),
-            0x25 => at += jump(loaded > step.k),
-            0x35 => at += jump(loaded >= step.k),
-            0x06 => return run,
-            code => panic!("code {code:#x}"),
+
+    // how many instructions a call with a number runs, its arguments being all the same: as the definitions' machine runs them
+    fn steps(&self, number: u32, argument: u64) -> u32 {
+        let mut call = [number.to_le_bytes(), AUDIT_ARCH_X86_64.to_le_bytes(), [0; 4], [0; 4]].concat();
+        call.extend([argument.to_le_bytes(); 6].concat());
+        let outcome = unsafe { callfilter_run(self.filter.as_ptr(), self.filter.len(), call.as_ptr(), call.len()) };
+        assert!(outcome.code == 0, "a filter that the kernel takes, and a call");
+        outcome.steps
+    }
+
+    // the worst, and the mean
+    fn steps_of(&self, numbers: &[u32]) -> (u32, f64) {
+        let runs: Vec<u32> = numbers.iter().flat_map(|number| [0, u64::MAX].map(|argument| self.steps(*number, argument))).collect();
+        (*runs.iter().max().expect("a number"), f64::from(runs.iter().sum::<u32>()) / runs.len() as f64)
+    }
+}
+
+// Both forms side by side. A number that is not listed runs what any other between the same two listed ones runs, so that those next to
+// listed ones, and the last of all, stand for all of them.
+fn forms(name: &str, set: &[u8]) -> String {
+    let mut forms = [Form::new(ours, set), Form::new(search, set)];
+    let listed: Vec<u32> = format::read_set(set).expect("a set of the format").entries.iter().map(|entry| entry.number).collect();
+    let around = listed.iter().flat_map(|number| [number.wrapping_sub(1), number.wrapping_add(1)]);
+    let others: Vec<u32> = around.chain([u32::MAX]).filter(|number| listed.binary_search(number).is_err()).collect();
+
+    let (batch, mut out) = (batch_of(set), vec![0; LONGEST_FILTER]);
+    let start = Instant::now();
+    while start.elapsed() < TIME_FOR_FORMS {
+        for Form { compile, time, .. } in &mut forms {
+            timed(time, batch, || {
+                for _ in 0..batch {
+                    black_box(compile(black_box(set), black_box(&mut out)));
+                }
+            });
         }
     }
+    let [(list_worst, list_mean), (search_worst, search_mean)] = [&forms[0], &forms[1]].map(|form| form.steps_of(&listed));
+    let [(list_other, _), (search_other, _)] = [&forms[0], &forms[1]].map(|form| form.steps_of(&others));
+    println!(
+        "| {name} | {} | {} | {list_worst} | {search_worst} | {list_mean:.0} | {search_mean:.0} | {list_other} | {search_other} |",
+        forms[0].filter.len() / 8,
+        forms[1].filter.len() / 8
+    );
+    format!("| {name} | {:.0} ns | {:.0} ns | {:.1} |", forms[0].time, forms[1].time, forms[1].time / forms[0].time)
 }
 
-// over the listed numbers, then over as many that are not listed
-fn run_lengths(name: &str, set: &[u8]) {
-    let filter = filter_from(set).expect("a set of the format");
-    let program = BpfProgram::try_from(filter).expect("a filter");
-    let listed = format::read_set(set).expect("a set of the format").entries.iter().map(|entry| entry.number).collect::<Vec<_>>();
-    let others = (0..).filter(|number| listed.binary_search(number).is_err()).take(listed.len()).collect::<Vec<_>>();
-    let told = |numbers: &[u32]| {
-        let runs = numbers.iter().flat_map(|number| [0, u64::MAX].map(|argument| instructions_run(&program, *number, argument)));
-        let runs = runs.collect::<Vec<_>>();
-        format!("{} | {:.0}", runs.iter().max().expect("a number"), runs.iter().sum::<usize>() as f64 / runs.len() as f64)
-    };
-    println!("| {name} | {} | {} | {} |", program.len(), told(&listed), told(&others));
-}
-
-// the best time, and the middle one, which is held to the limit
-fn limit(name: &str, code: u32, set: &[u8]) -> bool {
-    let mut out = vec![0; LONGEST_FILTER];
-    let mut times: Vec<f64> = (0..201)
+// the answer, and how long it takes: the best time, and the middle one
+fn answered(compile: fn(&[u8], &mut [u8]) -> Answer, set: &[u8], count: usize) -> (u32, f64, f64) {
+    let (mut out, mut code) = (vec![0; LONGEST_FILTER], 0);
+    let mut times: Vec<f64> = (0..count)
         .map(|_| {
             let start = Instant::now();
-            let answer = ours(black_box(set), &mut out);
+            let answer = compile(black_box(set), &mut out);
             let time = start.elapsed().as_nanos() as f64;
-            assert!(answer.code == code, "{name}: answer {} with count {}", answer.code, answer.count);
+            code = answer.code;
             time
         })
         .collect();
     times.sort_by(f64::total_cmp);
-    let middle = times[times.len() / 2];
+    (code, times[0], times[times.len() / 2])
+}
+
+// The middle one is held to the limit, but not a search's.
+fn limit(name: &str, code: u32, set: &[u8]) -> bool {
+    let (answer, best, middle) = answered(ours, set, 201);
+    assert!(answer == code, "{name}: answer {answer}");
+    let (of_search, _, middle_of_search) = answered(search, set, 21);
     let good = middle < LIMIT;
     let told = if good { "yes" } else { "NO" };
-    println!("| {name} | {} | {code} | {:.2} ms | {:.2} ms | {told} |", set.len(), times[0] / 1e6, middle / 1e6);
+    let size = set.len();
+    println!(
+        "| {name} | {size} | {code} | {:.2} ms | {:.2} ms | {told} | {of_search} | {:.2} ms |",
+        best / 1e6,
+        middle / 1e6,
+        middle_of_search / 1e6
+    );
     good
 }
 
@@ -225,14 +278,17 @@ fn main() {
         compare(&name, &set);
     }
     println!();
-    println!("| instructions run for a call | of | listed: worst | mean | not listed: worst | mean |");
-    println!("|---|---|---|---|---|---|");
-    for (name, _, set) in rows("compare") {
-        run_lengths(&name, &set);
-    }
+    println!("| list and search | instructions | search | run for a listed number, worst | search | mean | search | for another, worst | search |");
+    println!("|---|---|---|---|---|---|---|---|---|");
+    let both = [rows("compare"), rows("forms")].concat();
+    let times: Vec<String> = both.iter().map(|(name, _, set)| forms(name, set)).collect();
     println!();
-    println!("| set of 1 MiB | bytes | answer | best | middle | under 5 ms |");
-    println!("|---|---|---|---|---|---|");
+    println!("| compiled into | a list | a search | search, times list |");
+    println!("|---|---|---|---|");
+    println!("{}", times.join("\n"));
+    println!();
+    println!("| set of 1 MiB | bytes | answer | best | middle | under 5 ms | of a search: answer | middle |");
+    println!("|---|---|---|---|---|---|---|---|");
     let good: Vec<bool> = rows("limit").iter().map(|(name, code, set)| limit(name, *code, set)).collect();
     std::process::exit(i32::from(good.contains(&false)));
 }

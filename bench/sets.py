@@ -60,11 +60,18 @@ def compiled():
     yield "long masked rules", (*HEAD, [(9, [masked(168)] * 4)])
 
 
+def searched():
+    """Sets of which only the two forms are compared: what makes a search longer is how many rows the numbers are in."""
+    yield "calls 0 to 411", plain(range(412))
+    yield "818 calls apart", plain(range(0, 1636, 2))
+
+
 def refused():
     """Sets of 1 MiB, or of as many bytes less as the shape has to leave: (name, answer, set)."""
     room = LONGEST_SET - 24
     draw = Draw(2)
     yield "plain calls", 6, plain(range((LONGEST_SET - 16) // 8))
+    yield "calls apart", 6, plain(range(0, (LONGEST_SET - 16) // 4, 2))
     yield "entries of one condition", 6, (*HEAD, [(number, [[dword(number)]]) for number in range((LONGEST_SET - 16) // 36)])
     yield "rules of one condition", 6, (*HEAD, [(0, [[dword(number)] for number in range(room // 28)])])
     yield "one rule, dword conditions", 6, (*HEAD, [(0, [[dword(number) for number in range(room // 24)]])])
@@ -76,9 +83,10 @@ def refused():
 def write(folder):
     """Writes the sets as files, and gives a line for each: what to do with it, its answer, its file and its name."""
     lines = []
-    for name, made in compiled():
-        assert length(made) <= LONGEST
-        lines.append(("compare", 0, name, encode(made)))
+    for kind, made_sets in (("compare", compiled()), ("forms", searched())):
+        for name, made in made_sets:
+            assert length(made) <= LONGEST
+            lines.append((kind, 0, name, encode(made)))
     for name, answer, made in refused():
         data = encode(made)
         assert LONGEST_SET - 2048 < len(data) <= LONGEST_SET, (name, len(data))

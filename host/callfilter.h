@@ -67,8 +67,9 @@ enum {
 
 /* count: with codes 0, 6 and 7 how many instructions of eight bytes the filter has, else 0.
  * entry: with 2 the one whose number is not above that of the one before it, with 6 the first with which the filter, its last return
- * included, is too long, with 4, 5 and 8 the one that the fault is in. rule: with 4, 5 and 8, of this entry. condition: with 5 and 8, of
- * this rule. All are counted from 0, are the first in the order of the bytes, and with other codes CALLFILTER_NOWHERE. */
+ * included, is too long, but of a search, which does not grow by each, none, with 4, 5 and 8 the one that the fault is in. rule: with 4, 5
+ * and 8, of this entry. condition: with 5 and 8, of this rule. All are counted from 0, are the first in the order of the bytes, and with
+ * other codes CALLFILTER_NOWHERE. */
 typedef struct {
     uint32_t code, count, entry, rule, condition;
 } callfilter_answer;
@@ -76,6 +77,10 @@ typedef struct {
 /* Answers the smallest number that applies, and where; refusing, it writes nothing. With 0 out begins with seccompiler's filter, byte for
  * byte, and the rest stays: for any call it returns what the set means, it runs no instruction twice, and the kernel's checks pass on it. */
 callfilter_answer callfilter_compile(const uint8_t *set, size_t set_len, uint8_t *out, size_t out_len);
+
+/* The same, but for the bytes: a binary search, never longer than that filter, so that every set is compiled that callfilter_compile takes.
+ * With at most 2^k spans (a number with rules, or a row without) a run takes at most k + max(6, k) + 1 instructions, and the rules' more. */
+callfilter_answer callfilter_compile_search(const uint8_t *set, size_t set_len, uint8_t *out, size_t out_len);
 
 /* ---- writing a rule set part by part */
 

@@ -124,12 +124,20 @@ static bool answered(callfilter_answer given, uint32_t code, uint32_t count, uin
     return given.code == code && given.count == count && given.entry == entry && given.rule == rule && given.condition == condition;
 }
 
-static void compiled(void) {
+typedef callfilter_answer (*form)(const uint8_t *set, size_t set_len, uint8_t *out, size_t out_len);
+
+/* whether the buffer is as it was filled, from an end on */
+static bool filter_kept_from(size_t end) {
+    for (size_t at = end; at < sizeof filter; at++)
+        if (filter[at] != 0xa5) return false;
+    return true;
+}
+
+static void compiled(form compile, uint32_t count) {
     const uint8_t *set = WORKED_SET;
-    callfilter_answer answer = callfilter_compile(set, sizeof WORKED_SET, filter, 287);
-    CHECK(answered(answer, CALLFILTER_BUFFER_TOO_SHORT, 36, NOWHERE, NOWHERE, NOWHERE));
-    answer = callfilter_compile(set, sizeof WORKED_SET, filter, sizeof filter);
-    CHECK(answered(answer, CALLFILTER_COMPILED, 36, NOWHERE, NOWHERE, NOWHERE));
+    memset(filter, 0xa5, sizeof filter);
+    callfilter_answer answer = compile(set, sizeof WORKED_SET, filter, 8 * (size_t)count - 1);
+    CHECK(answered(answer, CALLFILTER_BUFFER_TOO_SHORT, count, NOWHERE, NOWHERE, NOWHERE));
 
     uint8_t changed[sizeof WORKED_SET];
     static const struct {
@@ -149,12 +157,17 @@ static void compiled(void) {
     for (size_t at = 0; at < sizeof faults / sizeof faults[0]; at++) {
         memcpy(changed, set, sizeof changed);
         changed[faults[at].at] = faults[at].byte;
-        answer = callfilter_compile(changed, sizeof changed, filter, sizeof filter);
+        answer = compile(changed, sizeof changed, filter, sizeof filter);
         CHECK(answered(answer, faults[at].code, 0, faults[at].entry, faults[at].rule, faults[at].condition));
     }
     callfilter_writer writer = callfilter_start(changed, sizeof changed, CALLFILTER_AARCH64, CALLFILTER_LOG, CALLFILTER_LOG);
-    answer = callfilter_compile(changed, writer.end, filter, sizeof filter);
+    answer = compile(changed, writer.end, filter, sizeof filter);
     CHECK(answered(answer, CALLFILTER_EQUAL_ACTIONS, 0, NOWHERE, NOWHERE, NOWHERE));
+    CHECK(filter_kept_from(0));
+
+    answer = compile(set, sizeof WORKED_SET, filter, sizeof filter);
+    CHECK(answered(answer, CALLFILTER_COMPILED, count, NOWHERE, NOWHERE, NOWHERE));
+    CHECK(!filter_kept_from(8 * (size_t)count - 1) && filter_kept_from(8 * (size_t)count));
 }
 
 /* Two numbers, of which the second has three rules, of one, four and one conditions on these arguments, or one more rule without conditions
@@ -188,12 +201,14 @@ static void put(uint8_t *place, uint64_t value, int size) {
 
 static uint8_t long_set[CALLFILTER_LONGEST_SET + 64];
 
-static callfilter_writer plain_calls(uint32_t count) {
+static callfilter_writer spread_calls(uint32_t count, uint32_t apart) {
     size_t room = sizeof long_set;
     callfilter_writer writer = callfilter_start(long_set, room, CALLFILTER_X86_64, CALLFILTER_TRAP, CALLFILTER_ALLOW);
-    for (uint32_t number = 0; number < count; number++) writer = callfilter_list(long_set, room, writer, number);
+    for (uint32_t number = 0; number < count; number++) writer = callfilter_list(long_set, room, writer, apart * number);
     return writer;
 }
+
+static callfilter_writer plain_calls(uint32_t count) { return spread_calls(count, 1); }
 
 static void limits(void) {
     callfilter_writer writer = plain_calls(131070);
@@ -207,6 +222,15 @@ static void limits(void) {
     CHECK(answered(answer, CALLFILTER_TOO_MANY_INSTRUCTIONS, 4100, 818, NOWHERE, NOWHERE));
     answer = callfilter_compile(long_set, plain_calls(131070).end, filter, sizeof filter);
     CHECK(answered(answer, CALLFILTER_TOO_MANY_INSTRUCTIONS, 655355, 818, NOWHERE, NOWHERE));
+
+    /* of a search, numbers in a row are one question */
+    answer = callfilter_compile_search(long_set, plain_calls(131070).end, filter, sizeof filter);
+    CHECK(answered(answer, CALLFILTER_COMPILED, 7, NOWHERE, NOWHERE, NOWHERE));
+    answer = callfilter_compile_search(long_set, spread_calls(3018, 2).end, filter, sizeof filter);
+    CHECK(answer.code == CALLFILTER_COMPILED && 8 * answer.count == CALLFILTER_LONGEST_FILTER);
+    memset(filter, 0xa5, sizeof filter);
+    answer = callfilter_compile_search(long_set, spread_calls(3019, 2).end, filter, sizeof filter);
+    CHECK(answered(answer, CALLFILTER_TOO_MANY_INSTRUCTIONS, 4097, NOWHERE, NOWHERE, NOWHERE) && filter_kept_from(0));
 }
 
 /* what a set of one condition on argument 0 means for it */
@@ -250,17 +274,20 @@ static void asked(void) {
     static const struct {
         uint32_t number, architecture;
         uint64_t arguments[3];
-        uint32_t action, steps;
+        uint32_t action, steps, steps_of_search;
     } calls[] = {
-        {0, 0xc000003e, {0, 0, 0}, CALLFILTER_ALLOW, 6},
-        {1, 0xc000003e, {(UINT64_C(1) << 32) + 1, 0, 0}, CALLFILTER_ALLOW, 10},
-        {1, 0xc000003e, {2, 0, 0}, CALLFILTER_ERRNO(1), 10},
-        {257, 0xc000003e, {0, 0, 4}, CALLFILTER_ALLOW, 16},
-        {257, 0xc000003e, {0, UINT64_C(1) << 32, 1}, CALLFILTER_ALLOW, 22},
-        {257, 0xc000003e, {0, (UINT64_C(1) << 32) - 1, 2}, CALLFILTER_ERRNO(1), 20},
-        {2, 0xc000003e, {0, 0, 0}, CALLFILTER_ERRNO(1), 11},
-        {0, 0xc00000b7, {0, 0, 0}, CALLFILTER_KILL_PROCESS, 3},
+        {0, 0xc000003e, {0, 0, 0}, CALLFILTER_ALLOW, 6, 5},
+        {1, 0xc000003e, {(UINT64_C(1) << 32) + 1, 0, 0}, CALLFILTER_ALLOW, 10, 8},
+        {1, 0xc000003e, {2, 0, 0}, CALLFILTER_ERRNO(1), 10, 8},
+        {257, 0xc000003e, {0, 0, 4}, CALLFILTER_ALLOW, 16, 13},
+        {257, 0xc000003e, {0, UINT64_C(1) << 32, 1}, CALLFILTER_ALLOW, 22, 18},
+        {257, 0xc000003e, {0, (UINT64_C(1) << 32) - 1, 2}, CALLFILTER_ERRNO(1), 20, 16},
+        {2, 0xc000003e, {0, 0, 0}, CALLFILTER_ERRNO(1), 11, 7},
+        {0, 0xc00000b7, {0, 0, 0}, CALLFILTER_KILL_PROCESS, 3, 3},
     };
+    static uint8_t search[CALLFILTER_LONGEST_FILTER];
+    size_t size_of_search = 8 * (size_t)callfilter_compile_search(WORKED_SET, sizeof WORKED_SET, search, sizeof search).count;
+    CHECK(callfilter_accepts(search, size_of_search));
     size_t size = 8 * (size_t)callfilter_compile(WORKED_SET, sizeof WORKED_SET, filter, sizeof filter).count;
     CHECK(callfilter_accepts(filter, size));
     CHECK(!callfilter_accepts(filter, size - 1) && !callfilter_accepts(filter, 8) && !callfilter_accepts(filter, 0));
@@ -272,6 +299,8 @@ static void asked(void) {
         for (int argument = 0; argument < 3; argument++) put(call + 16 + 8 * argument, calls[at].arguments[argument], 8);
         callfilter_outcome outcome = callfilter_run(filter, size, call, sizeof call);
         CHECK(outcome.code == CALLFILTER_RETURNED && outcome.action == calls[at].action && outcome.steps == calls[at].steps);
+        outcome = callfilter_run(search, size_of_search, call, sizeof call);
+        CHECK(outcome.code == CALLFILTER_RETURNED && outcome.action == calls[at].action && outcome.steps == calls[at].steps_of_search);
         outcome = callfilter_decide(WORKED_SET, sizeof WORKED_SET, call, sizeof call);
         CHECK(outcome.code == CALLFILTER_RETURNED && outcome.action == calls[at].action && outcome.steps == 0);
     }
@@ -284,7 +313,8 @@ static void asked(void) {
 int main(void) {
     written();
     read_back();
-    compiled();
+    compiled(callfilter_compile, 36);
+    compiled(callfilter_compile_search, 27);
     places();
     limits();
     numbers();

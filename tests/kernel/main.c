@@ -1,7 +1,7 @@
 // Holds the proved functions to the kernel of the machine it runs on.
 //
 //     compare programs SEED FIRST COUNT    random filters and calls, for callfilter_accepts and callfilter_run
-//     compare sets SEED FIRST              rule sets and calls from standard input, for callfilter_compile and callfilter_decide
+//     compare sets SEED FIRST              rule sets and calls from standard input, for both forms of compiling and callfilter_decide
 //     compare supervisor                   sets that hand calls to a supervisor
 
 #include "kernel.h"

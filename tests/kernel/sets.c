@@ -1,17 +1,23 @@
-// The second part: rule sets that callfilter_compile makes filters of, all of which the kernel takes, and calls that end as
-// callfilter_decide says of the set and callfilter_run of the filter. Wrong meanings of rule sets must be noticed on the way.
+// The second part: rule sets that callfilter_compile and callfilter_compile_search make filters of, all of which the kernel takes, and calls
+// that end as callfilter_decide says of the set and callfilter_run of each filter. Wrong meanings of rule sets must be noticed on the way.
 
 #include "kernel.h"
 #include <inttypes.h>
 #include <stdio.h>
 #include <string.h>
 
-enum { SHOWN = 5, CALLS_AT_LEAST = 40 };
+enum { SHOWN = 5, CALLS_AT_LEAST = 40, FAR = 250 };
+
+// Both forms of a set's filter are asked about, one after the other, with the same calls.
+enum { LIST_FORM, SEARCH_FORM, FORMS };
+static const char *const form_names[FORMS] = {"lists", "searches"};
 
 typedef struct { uint8_t bytes[CALLFILTER_LONGEST_SET]; uint32_t size; } rule_set;
 
-static rule_set sets[BATCH];        // of the questions of a batch
-static const question *first_asked; // the first of these
+static rule_set sets[BATCH / FORMS]; // of the questions of a batch
+static const question *first_asked;  // the first of these
+
+static const rule_set *set_of(const question *q) { return &sets[(q - first_asked) / FORMS]; }
 
 // ---- wrong meanings: what the right one says of a set or a call that was changed
 
@@ -90,7 +96,7 @@ static uint32_t architecture_word(uint8_t architecture) {
 
 static callfilter_outcome decided(const question *q, const call *made, unsigned wrong) {
     static rule_set changed;
-    const rule_set *set = &sets[q - first_asked];
+    const rule_set *set = set_of(q);
     call changed_call = *made;
     if (wrong != NONE) {
         memcpy(changed.bytes, set->bytes, set->size);
@@ -124,31 +130,52 @@ static void read_calls(question *q, uint32_t count, bool old_calls) {
     }
 }
 
+static void compile(question q[FORMS], const rule_set *set) {
+    for (unsigned form = 0; form < FORMS; form++) {
+        uint8_t *out = (uint8_t *)q[form].filter;
+        callfilter_answer answer = form == LIST_FORM ? callfilter_compile(set->bytes, set->size, out, sizeof q->filter)
+                                                     : callfilter_compile_search(set->bytes, set->size, out, sizeof q->filter);
+        if (answer.code != 0) fail("a set does not compile");
+        q[form].length = answer.count;
+    }
+}
+
 // false: there are no more
-static bool read_question(question *q, rule_set *set, bool old_calls) {
+static bool read_questions(question q[FORMS], rule_set *set, bool old_calls) {
     uint32_t head[2];
     if (fread(head, 1, sizeof head, stdin) != sizeof head) return false;
     if (head[0] > CALLFILTER_LONGEST_SET || head[1] > MOST_CALLS) fail("a set or its calls are too many for this program");
     set->size = head[0];
     read_whole(set->bytes, set->size);
     read_calls(q, head[1], old_calls);
-    callfilter_answer answer = callfilter_compile(set->bytes, set->size, (uint8_t *)q->filter, sizeof q->filter);
-    if (answer.code != 0) fail("a set does not compile");
-    q->length = answer.count;
+    for (unsigned form = 1; form < FORMS; form++) q[form].calls = q->calls, memcpy(q[form].call, q->call, sizeof q->call);
+    compile(q, set);
     return true;
 }
 
 // ---- the comparison
 
 typedef struct {
-    uint64_t sets, passed, failed, taken, calls, killed, matched;
+    uint64_t sets, passed, failed;
+    uint64_t taken[FORMS], instructions[FORMS], calls[FORMS], killed[FORMS], matched[FORMS];
+    uint64_t far;  // searches that jump to a number's rules, or among their comparisons, over more than a comparison can
     int64_t noticed[MEANINGS];
 } tally;
 
-static void judge_set(tally *t, const question *q, uint64_t seed, uint64_t index) {
+// The comparisons of a call's number stand in front of all that look at arguments.
+static bool searches_far(const question *q) {
+    for (uint32_t at = 0; at < q->length; at++) {
+        const instruction *i = &q->filter[at];
+        if (i->code == (BPF_LD | BPF_W | BPF_ABS) && i->k >= offsetof(call, args)) return false;
+        if (i->code == (BPF_JMP | BPF_JA) && i->k > FAR) return true;
+    }
+    return false;
+}
+
+static void judge_form(tally *t, const question *q, unsigned form, uint64_t seed, uint64_t index) {
     bool show = t->failed < SHOWN;
     char name[80];
-    snprintf(name, sizeof name, "seed %" PRIu64 ", set %" PRIu64, seed, index);
+    snprintf(name, sizeof name, "seed %" PRIu64 ", set %" PRIu64 ", of the %s", seed, index, form_names[form]);
     int by_run = difference(q, proved, 0), by_meaning = difference(q, meaning, NONE);
     if (show && by_run != AGREED) show_difference(q, by_run, proved, name);
     if (show && by_meaning != AGREED && by_run != by_meaning) show_difference(q, by_meaning, meaning, name);
@@ -157,13 +184,19 @@ static void judge_set(tally *t, const question *q, uint64_t seed, uint64_t index
     t->failed += !good;
     for (unsigned wrong = 1; wrong < MEANINGS; wrong++)
         if (t->noticed[wrong] < 0 && difference(q, meaning, wrong) != AGREED) t->noticed[wrong] = (int64_t)index;
-    uint32_t match = word_at(sets[q - first_asked].bytes + MATCH);
+    uint32_t match = word_at(set_of(q)->bytes + MATCH);
     for (uint32_t at = 0; q->taken == 0 && at < q->made; at++) {
-        t->calls++;
-        t->killed += q->seen[at] == DIED;
-        t->matched += q->seen[at] == seen_of(match);
+        t->calls[form]++;
+        t->killed[form] += q->seen[at] == DIED;
+        t->matched[form] += q->seen[at] == seen_of(match);
     }
-    t->taken += q->taken == 0;
+    t->taken[form] += q->taken == 0;
+    t->instructions[form] += q->length;
+}
+
+static void judge_set(tally *t, const question q[FORMS], uint64_t seed, uint64_t index) {
+    for (unsigned form = 0; form < FORMS; form++) judge_form(t, &q[form], form, seed, index);
+    t->far += searches_far(&q[SEARCH_FORM]);
     t->sets++;
 }
 
@@ -179,12 +212,18 @@ static void judge_meanings(tally *t) {
 
 static void judge_all(tally *t) {
     judge_meanings(t);
-    printf("%" PRIu64 " sets, %" PRIu64 " taken; %" PRIu64 " calls, %" PRIu64 " killed, %" PRIu64 " as a match ends; %" PRIu64
-           " processes\n", t->sets, t->taken, t->calls, t->killed, t->matched, processes);
-    if (t->calls < CALLS_AT_LEAST * t->sets) {
-        t->failed++;
-        printf("FAILED fewer than %u calls for a set\n", CALLS_AT_LEAST);
+    for (unsigned form = 0; form < FORMS; form++) {
+        printf("%" PRIu64 " %s, %" PRIu64 " taken, of %" PRIu64 " instructions; %" PRIu64 " calls, %" PRIu64 " killed, %" PRIu64
+               " as a match ends\n", t->sets, form_names[form], t->taken[form], t->instructions[form], t->calls[form], t->killed[form],
+               t->matched[form]);
+        if (t->calls[form] < CALLS_AT_LEAST * t->sets) {
+            t->failed++;
+            printf("FAILED fewer than %u calls for a set\n", CALLS_AT_LEAST);
+        }
     }
+    printf("%s%" PRIu64 " searches jump over more than %u instructions; %" PRIu64 " processes\n", t->far ? "" : "FAILED ", t->far, FAR,
+           processes);
+    t->failed += t->far == 0;
 }
 
 bool compare_sets(batch *asked, uint64_t seed, uint64_t first) {
@@ -194,12 +233,12 @@ bool compare_sets(batch *asked, uint64_t seed, uint64_t first) {
     first_asked = asked->question;
     printf("seed %" PRIu64 ", sets from %" PRIu64 " on\n", seed, first);
     while (more) {
-        for (asked->count = 0; asked->count < BATCH; asked->count++) {
-            more = read_question(&asked->question[asked->count], &sets[asked->count], old_calls);
+        for (asked->count = 0; asked->count < BATCH; asked->count += FORMS) {
+            more = read_questions(&asked->question[asked->count], &sets[asked->count / FORMS], old_calls);
             if (!more) break;
         }
         kernel_asked(asked);
-        for (uint32_t at = 0; at < asked->count; at++) judge_set(&t, &asked->question[at], seed, first + t.sets);
+        for (uint32_t at = 0; at < asked->count; at += FORMS) judge_set(&t, &asked->question[at], seed, first + t.sets);
     }
     // one set is asked for to see a difference again
     if (t.sets > 1) judge_all(&t);

@@ -12,23 +12,31 @@ from draw import Draw  # noqa: E402
 from model import AARCH64, EQ, ERRNO, GE, GT, LE, LT, MASKED_EQ, RISCV64, TOO_MANY, X86_64, encode, length  # noqa: E402
 
 CALLS = 64
-SAMPLES = 6
+SAMPLES = 24
 TRIES = 24
 ALL = 2 ** 64 - 1
 # the only two that a process of this machine can make: its own, and 32-bit ones
 NATIVE, OLD = 0xc000003e, 0x40000003
 
 
+def rules_for_many(draw):
+    """Two of three numbers have rules: a search over them has instructions in between that a question cannot jump over."""
+    numbers = draw.numbers(draw.between(60, 250))
+    return (*draw.head(), [(number, [draw.rule(draw.between(1, 3)) for _ in range(draw.below(3))]) for number in numbers])
+
+
 def rule_set(draw):
     """Mostly with two errnos as actions, since these can be told apart from outside."""
     while True:
-        shape = draw.below(20)
+        shape = draw.below(22)
         if shape < 12:
             made = draw.small()
         elif shape < 16:
             made = draw.long_rules()
         elif shape < 18:
             made = draw.many_numbers()
+        elif shape < 20:
+            made = rules_for_many(draw)
         else:
             made = draw.exact(draw.of((TOO_MANY - 1, draw.between(200, TOO_MANY - 1))))
         _, mismatch, match, entries = made

@@ -92,10 +92,10 @@ def build_judge():
     return TARGET / "judge"
 
 
-def run(program, data, seconds):
+def run(program, words, data, seconds):
     """Standard output, and what went wrong: an end by signal, by a status or by the clock."""
     try:
-        done = subprocess.run([str(program)], input=data, capture_output=True, timeout=seconds)
+        done = subprocess.run([str(program), *words], input=data, capture_output=True, timeout=seconds)
     except subprocess.TimeoutExpired as late:
         return late.stdout or b"", f"stopped after {seconds} seconds"
     except OSError as error:
@@ -104,11 +104,11 @@ def run(program, data, seconds):
     return done.stdout, f"ended with status {done.returncode}: {said}" if done.returncode else ""
 
 
-def ask(program, frames, seconds=600):
-    """The answers (code, count, entry, rule, condition, filter) of a program to frames of (set, room). A program that stops early leaves
-    fewer answers."""
+def ask(program, frames, *words, seconds=600):
+    """The answers (code, count, entry, rule, condition, filter) of a program, called with these words, to frames of (set, room). A program
+    that stops early leaves fewer answers."""
     data = b"".join(struct.pack("<II", len(given), room) + given for given, room in frames)
-    output, trouble = run(program, data, seconds)
+    output, trouble = run(program, words, data, seconds)
     answers, at = [], 0
     while len(answers) < len(frames) and at + 20 <= len(output):
         code, count, *place = struct.unpack_from("<5I", output, at)

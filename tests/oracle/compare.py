@@ -1,7 +1,8 @@
 #!/usr/bin/env python3
 """Compares a compiler that speaks the oracle's frames with the real compiler of seccompiler 0.5.0: answers and bytes of systematic and of
-random rule sets, and what the filters return for calls drawn from the values in the rules. It also tries the listed differences on the
-real compiler. The last line is 'N passed, M failed'.
+random rule sets, and what the filters return for calls drawn from the values in the rules. Of some sets the program also makes a search,
+which seccompiler has not: it is held to the meaning, and never longer. It also tries the listed differences on the real compiler. The last
+line is 'N passed, M failed'.
 
     compare.py --other PROGRAM [--sets N] [--seed N] [--calls N]
 
@@ -17,11 +18,14 @@ import build
 
 sys.path.insert(0, str(build.ROOT / "tests" / "vectors"))
 from draw import Draw  # noqa: E402
-from model import ALLOW, EQ, ERRNO, LONGEST_SET, X86_64, encode, length  # noqa: E402
+from model import ALLOW, EQ, ERRNO, LONGEST_SET, NOWHERE, TOO_MANY, X86_64, decode, encode, length  # noqa: E402
 
 BATCH = 500
 PLENTY = 65536
 SHOWN = 5
+# of so many sets one is also compiled into a search
+SEARCHED = 3
+BY_LENGTH = (0, 6, 7)
 
 
 def heads():
@@ -111,8 +115,63 @@ def drawn(seed, count):
 class Tally:
     def __init__(self):
         self.passed = self.calls = self.matched = self.raised = 0
+        self.searches = self.searched = self.listed = 0
         self.failures = []
         self.codes = {}
+
+
+def answers_of(other, frames, *words):
+    """One for each frame: none where the program had stopped."""
+    given, trouble = build.ask(other, frames, *words)
+    if trouble:
+        print(f"the other program {trouble}")
+    return given + [None] * (len(frames) - len(given))
+
+
+def first_too_wide(given):
+    """Where the first dword condition is that has more than 32 bits."""
+    for entry, (_, rules) in enumerate(decode(given)[3]):
+        for at, rule in enumerate(rules):
+            for place, (_, width, _, value, mask) in enumerate(rule):
+                if width == 4 and (value | mask) >> 32:
+                    return entry, at, place
+    return None
+
+
+def search_answer(frame, wanted, got):
+    """What a search is to be answered, where the list of comparisons has the wanted answer: it is refused for its own length only, and
+    where that is none too many, for what comes behind the length."""
+    given, room = frame
+    if wanted[0] not in BY_LENGTH:
+        return wanted[:-1]
+    # of a refusal for something else there is no length, and 0 is never one
+    count = min(got[1], wanted[1])
+    code = 6 if count >= TOO_MANY else 7 if 8 * count > room else 0
+    wide = None if code or wanted[0] == 0 else first_too_wide(given)
+    return (8, 0, *wide) if wide else (code, count, NOWHERE, NOWHERE, NOWHERE)
+
+
+def compare_searches(frames, expected, other, judge, calls, seed, tally):
+    given = answers_of(other, frames, "search")
+    places = [place for place, answer in enumerate(given) if answer and answer[0] == 0]
+    results, told = build.judge(judge, [(frames[place][0], given[place][-1]) for place in places], calls, seed)
+    if told:
+        print("\n".join(told[:SHOWN]))
+    verdicts = dict(zip(places, results))
+    for place, (frame, wanted, got) in enumerate(zip(frames, expected, given)):
+        wrong, matched, refused = verdicts.get(place, (0, 0, 0))
+        good = got and got[:-1] == search_answer(frame, wanted, got) and not wrong and not refused
+        if place in verdicts:
+            tally.searches += 1
+            tally.searched += got[1]
+            tally.listed += wanted[1]
+            tally.calls += calls
+            tally.matched += matched
+        if good:
+            tally.passed += 1
+        else:
+            tally.failures.append((frame, f"a search: answered {got and got[:-1]} where the list has {wanted[:-1]}; {wrong} of {calls} calls "
+                                   "end wrong" + (", the kernel refuses it" if refused else "")))
 
 
 def compare(frames, oracle, other, judge, calls, seed, tally):
@@ -123,10 +182,9 @@ def compare(frames, oracle, other, judge, calls, seed, tally):
     else:
         expected, raised = build.ask_oracle(frames)
         tally.raised += raised
-    given, trouble = build.ask(other, frames)
-    if trouble:
-        print(f"the other program {trouble}")
-    given += [None] * (len(frames) - len(given))
+    given = answers_of(other, frames)
+    if not oracle:
+        compare_searches(frames[::SEARCHED], expected[::SEARCHED], other, judge, calls, seed, tally)
 
     # where both wrote the same there is one filter to run, else two
     to_run = {}
@@ -211,7 +269,7 @@ def main():
         if batch:
             compare(batch, oracle, options.other.resolve(), judge, options.calls, options.seed, tally)
         count = tally.passed + len(tally.failures) - before
-        print(f"{name}: {count} sets, {len(tally.failures)} failures so far, {time.monotonic() - start:.1f} s")
+        print(f"{name}: {count} answers, {len(tally.failures)} failures so far, {time.monotonic() - start:.1f} s")
 
     if not oracle:
         differences(build.build_oracle(), tally)
@@ -221,6 +279,7 @@ def main():
 
     codes = ", ".join(f"{code}: {tally.codes[code]}" for code in sorted(tally.codes))
     print(f"answers ({codes}); {tally.calls} calls run, {tally.matched} of them matching")
+    print(f"{tally.searches} searches, of {tally.searched} instructions where lists have {tally.listed}")
     print(f"{tally.raised} filters of 4,096 instructions, which seccompiler writes only with its limit raised by one")
     show(tally.failures)
     print(f"{tally.passed} passed, {len(tally.failures)} failed")

@@ -2,7 +2,7 @@
 // that the compiler was not to touch. Set and buffer each end where readable memory ends, so that one byte too far stops the program.
 //
 // Standard input: frames of (set length, room, set). Standard output, for each: (code, count, entry, rule, condition), which is how the
-// answer lies in memory, and, if the code is 0, the filter.
+// answer lies in memory, and, if the code is 0, the filter. With the word 'search' it compiles into the other form.
 
 #define _DEFAULT_SOURCE
 #include <stdint.h>
@@ -38,7 +38,9 @@ static void write_whole(const void *place, size_t size) {
     if (fwrite(place, 1, size, stdout) != size) stop("standard output");
 }
 
-int main(void) {
+int main(int count, char **words) {
+    bool search = count == 2 && strcmp(words[1], "search") == 0;
+    if (count != 1 && !search) stop("usage: host [search]");
     uint8_t *set_end = end_of_area(), *out_end = end_of_area(), *copy = malloc(AREA);
     if (copy == NULL) stop("no memory");
     uint32_t head[2];
@@ -51,7 +53,7 @@ int main(void) {
         memcpy(copy, set, size);
         for (size_t at = 0; at < IN_FRONT + room; at++) front[at] = pattern(at, frame);
 
-        callfilter_answer answer = callfilter_compile(set, size, out, room);
+        callfilter_answer answer = search ? callfilter_compile_search(set, size, out, room) : callfilter_compile(set, size, out, room);
 
         size_t written = answer.code == 0 ? 8 * (size_t)answer.count : 0;
         if (written > room) stop("the filter is longer than the buffer");

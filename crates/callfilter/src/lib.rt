@@ -6,12 +6,14 @@ ghost use mathlib.Core.Option.{some};
 ghost use lib.Dec.{eqb};
 ghost use Prim.Native.Nat.{_≤_};
 ghost use Rattle.definitions.specs.Answer as answers;
-ghost use Rattle.definitions.specs.Compiled.{Compiled};
+ghost use Rattle.definitions.specs.Format.{read};
+ghost use Rattle.definitions.specs.Compiled.{Compiled, Searched};
 ghost use Rattle.definitions.specs.Kernel.{acceptsBytes};
 ghost use Rattle.definitions.specs.Outcome.{outcomeOf, decidedOf};
 ghost use Rattle.definitions.specs.Parts.{withEntry, withRule, conditionPart};
 ghost use Rattle.definitions.specs.Writers.{Started, Added};
 ghost use Rattle.definitions.specs.Readers as readers;
+ghost use Rattle.search.specs.Counts.{searchSize};
 ghost use Rattle.callfilter.specs.Verdict.{early, codeFrom};
 use definitions::Answer;
 use definitions::Compared;
@@ -109,6 +111,38 @@ pub extern "C" fn callfilter_compile(set: &[u8], out: &mut [u8]) -> Answer
     }
     filter::put_filter(out, set);
     r
+}
+
+// The answer for a set and a room, where the filter is a search.
+fn search_verdict(set: &[u8], room: usize) -> Answer
+    ensures { λ r. ⌜ r ≡ answers.answerBy searchSize (λ rs. answers.noFault) (read (now (set .entry))) room ⌝ }
+{
+    let found = ruleset::judge(set);
+    if found.code == 1 {
+        return give(1, 0, no_fault());
+    }
+    let size = tree::search_length(set);
+    let code = code_from(found.code, size, room);
+    let count = count_with(code, size as u32);
+    // a search does not grow entry by entry, so no entry is the one that is too many
+    if code == 6 {
+        return give(code, count, no_fault());
+    }
+    give(code, count, location::locate(set, code))
+}
+
+// Compiles a rule set into a lent buffer, as a search.
+#[no_mangle]
+pub extern "C" fn callfilter_compile_search(set: &[u8], out: &mut [u8]) -> Answer
+    ensures { λ r. ⌜ Searched searchSize (now (set .entry)) (now (out .entry)) (now (out .exit)) r ⌝ }
+{
+    let answer = search_verdict(set, out.len());
+    if answer.code != 0 {
+        return answer;
+    }
+    let count = answer.count as usize;
+    tree::put_search(out, set, count);
+    answer
 }
 
 // Whether the kernel would take a filter.

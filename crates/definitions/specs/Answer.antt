@@ -144,15 +144,20 @@ faultOf long code rs =
 abbrev pub answer : ℕ → ℕ → Fault → Answer
 answer code count f = record { code = code; count = count; entry = f .entry; rule = f .rule; condition = f .condition }
 
--- for a rule set whose filter has n instructions; `long` is where it is too long
+-- n instructions, and where they are too many
 unfoldable pub answerWith : ℕ → Fault → RuleSet → ℕ → Answer
 answerWith n long rs room =
     let code : ℕ = codeWith n rs room in answer code (countWith code n) (faultOf long code rs)
 
-abbrev pub answerRead : Option RuleSet → ℕ → Answer
-answerRead none room = answer 1 0 noFault
-answerRead (some rs) room = answerWith (length (emitted rs)) (tooLong rs) rs room
+-- for a rule set whose filter has `size` instructions; `long` is where it is too long
+abbrev pub answerBy : (RuleSet → ℕ) → (RuleSet → Fault) → Option RuleSet → ℕ → Answer
+answerBy size long none room = answer 1 0 noFault
+answerBy size long (some rs) room = answerWith (size rs) (long rs) rs room
+
+-- how many instructions are emitted
+abbrev pub emittedSize : RuleSet → ℕ
+emittedSize rs = length (emitted rs)
 
 -- the answer for a byte string and a buffer of `room` bytes
 unfoldable pub answerOf : List ℕ → ℕ → Answer
-answerOf bs room = answerRead (read bs) room
+answerOf bs room = answerBy emittedSize tooLong (read bs) room

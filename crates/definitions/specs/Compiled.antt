@@ -1,5 +1,6 @@
--- What compiling promises: the whole contract of `callfilter_compile`, said of the bytes that went in and came out.
-use Prim.Native.Nat.{ℕ, _*_, _≤_}
+-- What compiling promises: the whole contracts of `callfilter_compile` and `callfilter_compile_search`, said of the bytes that went in
+-- and came out.
+use Prim.Native.Nat.{ℕ, _+_, _*_, _^_, _≤_, max}
 use mathlib.Core.Path.{_≡_}
 use mathlib.Core.Bool.{true, cond}
 use mathlib.Core.List.{List}
@@ -8,10 +9,10 @@ use lib.ListN.{length, take, drop}
 use Rattle.definitions.specs.declared.Answer.{Answer}
 use Rattle.definitions.specs.Machine.{filterBytes, filterOf, Call, returns, start, runs, visits, steps, Climbs}
 use Rattle.definitions.specs.Kernel.{acceptsBytes}
-use Rattle.definitions.specs.RuleSet.{RuleSet, meaning}
-use Rattle.definitions.specs.Emitted.{emitted}
-use Rattle.definitions.specs.Format.{encode, InRange}
-use Rattle.definitions.specs.Answer.{answerOf}
+use Rattle.definitions.specs.RuleSet.{RuleSet, meaning, spanCount, rulesOf}
+use Rattle.definitions.specs.Emitted.{rulesCode, emitted}
+use Rattle.definitions.specs.Format.{encode, InRange, read}
+use Rattle.definitions.specs.Answer.{noFault, answerBy, answerOf}
 
 -- bytes that are the byte form of a rule set
 pub record FormOf (rs : RuleSet) (set : List ℕ) : Type 0 where
@@ -26,14 +27,10 @@ written r = cond (eqb (r .code) 0) (8 * r .count) 0
 abbrev pub filterIn : Answer → List ℕ → List ℕ
 filterIn r out = take (written r) out
 
--- `set` was compiled into a buffer that held `before` and now holds `after`, and `r` was answered
-pub record Compiled (set before after : List ℕ) (r : Answer) : Type 0 where
-  -- the answer is the smallest number that applies
-  pub answer : r ≡ answerOf set (length before)
+-- what stands in a buffer that held `before` and now holds `after`, once a set was compiled into it and `r` was answered
+pub record Behaves (set before after : List ℕ) (r : Answer) : Type 0 where
   -- what stands behind the filter is as it was; where it was refused, that is all
   pub kept : drop (written r) after ≡ drop (written r) before
-  -- the filter is the one that is emitted for the rule set, byte for byte
-  pub same : r .code ≡ 0 → (rs : RuleSet) → FormOf rs set → filterIn r after ≡ filterBytes (emitted rs)
   -- the bytes, run on any call, return the action that the rule set means
   pub right : r .code ≡ 0 → (rs : RuleSet) → FormOf rs set → (c : Call) → runs (filterOf (filterIn r after)) c ≡ returns (meaning rs c)
   -- the kernel's checks pass on the bytes
@@ -41,3 +38,23 @@ pub record Compiled (set before after : List ℕ) (r : Answer) : Type 0 where
   -- a run of the bytes goes from instruction to later instruction, so that it executes none twice and at most as many as there are
   pub once : r .code ≡ 0 → (c : Call)
       → Climbs 0 (r .count) (visits 0 0 (filterOf (filterIn r after)) start c) × (steps (filterOf (filterIn r after)) c ≤ r .count)
+
+-- what compiling promises
+pub record Compiled (set before after : List ℕ) (r : Answer) : Type 0 where
+  -- the answer is the smallest number that applies
+  pub answer : r ≡ answerOf set (length before)
+  -- the filter is the one that is emitted for the rule set, byte for byte
+  pub same : r .code ≡ 0 → (rs : RuleSet) → FormOf rs set → filterIn r after ≡ filterBytes (emitted rs)
+  pub behaves : Behaves set before after r
+
+-- what compiling into a search promises, `size` being how many instructions it makes
+pub record Searched (size : RuleSet → ℕ) (set before after : List ℕ) (r : Answer) : Type 0 where
+  -- the answer is the smallest number that applies; with 6 no entry is named, since the filter does not grow by each
+  pub answer : r ≡ answerBy size (λ rs. noFault) (read set) (length before)
+  -- the filter is never longer than the emitted one
+  pub shorter : (rs : RuleSet) → size rs ≤ length (emitted rs)
+  -- With at most 2 ^ k spans of listed numbers a run takes k + max 6 k instructions and a return, and for a number with rules at most
+  -- as many more as the emitted filter has for these.
+  pub quick : r .code ≡ 0 → (rs : RuleSet) → FormOf rs set → (c : Call) (k : ℕ) → spanCount (rs .entries) ≤ 2 ^ k
+      → steps (filterOf (filterIn r after)) c ≤ k + max 6 k + 1 + length (rulesCode (rs .onMatch) (rulesOf (c .number) (rs .entries)))
+  pub behaves : Behaves set before after r

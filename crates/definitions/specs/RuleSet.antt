@@ -1,6 +1,6 @@
 -- Rule sets, and what they mean for a call: which action the filter has to return. The rule sets, operators and widths are those of
 -- seccompiler 0.5.0; the words of architectures and actions are those of linux/audit.h and linux/seccomp.h.
-use Prim.Native.Nat.{ℕ, _/_, _%_, _^_}
+use Prim.Native.Nat.{ℕ, _+_, _/_, _%_, _^_}
 use mathlib.Core.Path.{_≡_}
 use mathlib.Core.Bool.{Bool, true, false, cond, not, _&&_, _||_}
 use mathlib.Core.List.{List, [], _∷_, _++_}
@@ -104,6 +104,26 @@ listed c m d (e ∷ es) = cond (eqb (c .number) (e .number)) (cond (matches c (e
 unfoldable pub meaning : RuleSet → Call → ℕ
 meaning rs c =
     cond (eqb (c .architecture) (architectureWord (rs .architecture))) (listed c (rs .onMatch) (rs .mismatch) (rs .entries)) killProcess
+
+-- ---- how the listed numbers lie
+
+abbrev pub noRules : List Rule → Bool
+noRules [] = true
+noRules (r ∷ rs) = false
+
+-- two entries whose numbers follow each other, both without rules, are in one span
+abbrev pub together : Entry → Entry → Bool
+together e f = eqb (f .number) (e .number + 1) && (noRules (e .rules) && noRules (f .rules))
+
+unfoldable pub spanCount : List Entry → ℕ
+spanCount [] = 0
+spanCount (e ∷ []) = 1
+spanCount (e ∷ (f ∷ es)) = cond (together e f) 0 1 + spanCount (f ∷ es)
+
+-- the rules of a number; none where it is not listed
+unfoldable pub rulesOf : ℕ → List Entry → List Rule
+rulesOf n [] = []
+rulesOf n (e ∷ es) = cond (eqb n (e .number)) (e .rules) (rulesOf n es)
 
 -- ---- what it is to let more calls match
 

@@ -33,7 +33,7 @@ pub fn architecture_word(a: u32) -> u32
 
 // Writes the test of the architecture, which stands at 4 in the call data. A call of another one is killed, since its numbers stand
 // for other calls.
-fn put_head(out: &mut [u8], a: u32)
+pub fn put_head(out: &mut [u8], a: u32)
     requires { ⌜ 24 ≤ length (now out) ⌝ }
     ensures { λ _. ⌜ now (out .exit) ≡ place (now (out .entry)) 0
         (filterBytes (emitted.load 4 ∷ emitted.ifEqual (architectureWord (namedArchitecture a)) 1 0 ∷ emitted.return killProcess ∷ [])) ⌝ }
@@ -103,7 +103,7 @@ fn put_listed(out: &mut [u8], s: &[u8], from: usize, at: usize, m: u32, d: u32)
 }
 
 // Whether an entry is left, and it has no rules.
-fn plain_here(s: &[u8], left: u32, at: usize) -> bool
+pub fn plain_here(s: &[u8], left: u32, at: usize) -> bool
     requires { ⌜ (entriesPast (now s) left at ≤ length (now s)) × (length (now s) ≤ 1048576) ⌝ }
     ensures { λ r. ⌜ r ≡ plainHere (now (s .entry)) left at ⌝ }
 {

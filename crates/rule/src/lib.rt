@@ -95,7 +95,7 @@ fn put_step(out: &mut [u8], end: usize, q: Condition, d: u8) -> Put
 }
 
 // Writes n conditions so that they end at a place, and answers the distance in front of them.
-fn put_conditions(out: &mut [u8], s: &[u8], n: u32, from: usize, end: usize) -> u8
+pub fn put_conditions(out: &mut [u8], s: &[u8], n: u32, from: usize, end: usize) -> u8
     requires { ⌜ (from + 24 * n ≤ length (now s)) × (length (now s) ≤ 1048576) ⌝ }
     requires { ⌜ (8 * length (conditionsCode (conditionsHere (now s) n from) 1) ≤ end) × (end ≤ length (now out)) ⌝ }
     ensures { λ r. ⌜ (now (out .exit) ≡ placeBefore (now (out .entry)) end (filterBytes (conditionsCode (conditionsHere (now (s .entry)) n from) 1)))
@@ -116,7 +116,7 @@ fn put_conditions(out: &mut [u8], s: &[u8], n: u32, from: usize, end: usize) -> 
 }
 
 // How many instructions a rule of n conditions has.
-fn rule_length(s: &[u8], n: u32, from: usize) -> usize
+pub fn rule_length(s: &[u8], n: u32, from: usize) -> usize
     requires { ⌜ (from + 24 * n ≤ length (now s)) × (length (now s) ≤ 1048576) ⌝ }
     ensures { λ r. ⌜ ((m : ℕ) → length (ruleCode m (conditionsHere (now (s .entry)) n from)) ≡ r) × (r ≤ 3 + 9 * n) ⌝ }
 {

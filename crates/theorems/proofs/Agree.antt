@@ -24,9 +24,9 @@ unfolding outcomeOf decidedOf
 agree set before after r bytes p z call size =
     let k = compiles set (length before) r (p .answer) z in
     let form = read-written set bytes (k .0) (k .1 .from) in
-    let right = p .right z (k .0) (record { ranged = form .0; spelled = form .1 }) (callOf call) in
+    let right = p .behaves .right z (k .0) (record { ranged = form .0; spelled = form .1 }) (callOf call) in
     let ran : outcomeOf (filterIn r after) call
     ≡ record { code = 0; action = meaning (k .0) (callOf call); steps = steps (filterOf (filterIn r after)) (callOf call) } =
-    rw (eq-eqb (length call) 64 size, p .taken z, right) in
+    rw (eq-eqb (length call) 64 size, p .behaves .taken z, right) in
     let said : decidedOf set call ≡ decided 0 (meaning (k .0) (callOf call)) = rw (eq-eqb (length call) 64 size, k .1 .from, k .1 .nothing) in
     (ap code ran, ap code said, ap action ran ∙ sym (ap action said))

@@ -7,21 +7,20 @@ use mathlib.Core.Option.{Option, none, some}
 use Prim.Native.Nat.{ℕ, _*_, _≤_, _<_}
 use native.Mathlib.Omega.{arith}
 use lib.Dec.{eqb, leb, ltb}
-use lib.ListN.{length}
 use borrow.Author.Tests.{leb-false, ltb-false, not-false}
 use Rattle.definitions.specs.declared.Fault.{Fault}
 use Rattle.definitions.specs.declared.Answer.{Answer}
 use Rattle.definitions.specs.RuleSet.{RuleSet}
-use Rattle.definitions.specs.Emitted.{emitted}
 use Rattle.definitions.specs.Format.{read}
-use Rattle.definitions.specs.Answer.{ascending, rulesFilled, indicesTaken, widthsFit, tooMany, noFault, faultOf, tooLong, answer, codeWith, refusal, answerWith, answerRead, answerOf}
+use Rattle.definitions.specs.Answer.{ascending, rulesFilled, indicesTaken, widthsFit, tooMany, noFault, faultOf, tooLong, answer, codeWith, refusal, emittedSize, answerWith, answerBy, answerOf}
 
-pub record Compiles (set : List ℕ) (room : ℕ) (r : Answer) (rs : RuleSet) : Type 0 where
+-- `rs` was compiled into `size rs` instructions
+pub record Compiles (size : RuleSet → ℕ) (set : List ℕ) (room : ℕ) (r : Answer) (rs : RuleSet) : Type 0 where
   pub from : read set ≡ some rs
   pub nothing : refusal rs ≡ 0
-  pub short : length (emitted rs) < tooMany
-  pub fits : 8 * length (emitted rs) ≤ room
-  pub said : r ≡ answer 0 (length (emitted rs)) noFault
+  pub short : size rs < tooMany
+  pub fits : 8 * size rs ≤ room
+  pub said : r ≡ answer 0 (size rs) noFault
 
 -- a test that led to another number than 0
 past : (t : Bool) (a b : ℕ) → (a ≡ 0 → ⊥) → cond t a b ≡ 0 → (t ≡ false) × (b ≡ 0)
@@ -58,6 +57,9 @@ nothing-applies n rs room e =
       whole = not-false (widthsFit rs) (w8 .0);
     }
 
+pub ascending-entries : (rs : RuleSet) → refusal rs ≡ 0 → ascending (rs .entries) ≡ true
+ascending-entries rs e = nothing-applies 0 rs 0 e .up
+
 pub indices-taken : (rs : RuleSet) → refusal rs ≡ 0 → indicesTaken rs ≡ true
 indices-taken rs e = nothing-applies 0 rs 0 e .indexed
 
@@ -85,12 +87,17 @@ answered n long rs room e =
       said = rw e;
     }
 
-by-read : (set : List ℕ) (room : ℕ) (r : Answer) (x : Option RuleSet) → read set ≡ x → r ≡ answerRead x room → r .code ≡ 0 → (rs : RuleSet) × Compiles set room r rs
-by-read set room r none e p z = absurd (let q = ap code p in omega arith)
-by-read set room r (some rs) e p z =
-    let a = answered (length (emitted rs)) (tooLong rs) rs room (sym (ap code p) ∙ z) in
+by-read : (size : RuleSet → ℕ) (long : RuleSet → Fault) (set : List ℕ) (room : ℕ) (r : Answer) (x : Option RuleSet) → read set ≡ x
+    → r ≡ answerBy size long x room → r .code ≡ 0 → (rs : RuleSet) × Compiles size set room r rs
+by-read size long set room r none e p z = absurd (let q = ap code p in omega arith)
+by-read size long set room r (some rs) e p z =
+    let a = answered (size rs) (long rs) rs room (sym (ap code p) ∙ z) in
     (rs, record { from = e; nothing = a .nothing; short = a .short; fits = a .fits; said = p ∙ a .said })
 
-pub compiles : (set : List ℕ) (room : ℕ) (r : Answer) → r ≡ answerOf set room → r .code ≡ 0 → (rs : RuleSet) × Compiles set room r rs
+pub compiles-by : (size : RuleSet → ℕ) (long : RuleSet → Fault) (set : List ℕ) (room : ℕ) (r : Answer) → r ≡ answerBy size long (read set) room → r .code ≡ 0
+    → (rs : RuleSet) × Compiles size set room r rs
+compiles-by size long set room r p z = by-read size long set room r (read set) refl p z
+
+pub compiles : (set : List ℕ) (room : ℕ) (r : Answer) → r ≡ answerOf set room → r .code ≡ 0 → (rs : RuleSet) × Compiles emittedSize set room r rs
 unfolding answerOf
-compiles set room r p z = by-read set room r (read set) refl p z
+compiles set room r p z = compiles-by emittedSize tooLong set room r p z

@@ -160,8 +160,8 @@ no-fault code h long rs =
     (λ q. either-true (eqb code 3) _ (λ p. rw (eqb-true code 3 p))
     (λ q. either-true (eqb code 7) _ (λ p. rw (eqb-true code 7 p)) (λ q. cc) q) q) q) h
 
-unnamed-by : (x : Option RuleSet) (room code : ℕ) → oneOf placeless code ≡ true → answers.answerRead x room .code ≡ code
-    → Nowhere (answers.answerRead x room)
+unnamed-by : (x : Option RuleSet) (room code : ℕ) → oneOf placeless code ≡ true → answers.answerBy answers.emittedSize tooLong x room .code ≡ code
+    → Nowhere (answers.answerBy answers.emittedSize tooLong x room)
 unfolding answerWith
 unnamed-by none room code h e = (refl, refl, refl)
 unnamed-by (some rs) room code h e =

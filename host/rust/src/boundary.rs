@@ -86,6 +86,7 @@ pub(crate) struct Compared {
 
 extern "C" {
     fn callfilter_compile(set: *const u8, set_len: usize, out: *mut u8, out_len: usize) -> Answer;
+    fn callfilter_compile_search(set: *const u8, set_len: usize, out: *mut u8, out_len: usize) -> Answer;
     fn callfilter_start(out: *mut u8, out_len: usize, architecture: u32, mismatch: u32, on_match: u32) -> Writer;
     fn callfilter_list(out: *mut u8, out_len: usize, writer: Writer, number: u32) -> Writer;
     fn callfilter_begin_rule(out: *mut u8, out_len: usize, writer: Writer) -> Writer;
@@ -114,6 +115,11 @@ const _: () = assert!(std::mem::size_of::<sock_filter>() == 8);
 pub(crate) fn compile(set: &[u8], out: &mut [sock_filter]) -> Answer {
     // SAFETY: both slices are good for their lengths, `out` in bytes, and borrowed apart
     unsafe { callfilter_compile(set.as_ptr(), set.len(), out.as_mut_ptr().cast(), std::mem::size_of_val(out)) }
+}
+
+pub(crate) fn compile_search(set: &[u8], out: &mut [sock_filter]) -> Answer {
+    // SAFETY: both slices are good for their lengths, `out` in bytes, and borrowed apart
+    unsafe { callfilter_compile_search(set.as_ptr(), set.len(), out.as_mut_ptr().cast(), std::mem::size_of_val(out)) }
 }
 
 pub(crate) fn start(out: &mut [u8], architecture: u32, mismatch: u32, on_match: u32) -> Writer {

@@ -67,8 +67,26 @@ impl Filter {
     /// assert_eq!(error.to_string(), "entry 1 (call 3): the one before it lists call 3; numbers must be strictly ascending");
     /// ```
     pub fn compile(set: &[u8]) -> Result<Filter, Error> {
+        Filter::compiled(set, boundary::compile)
+    }
+
+    /// Compiles a set from its bytes into a search, as [`RuleSet::compile_search`](crate::RuleSet::compile_search) does.
+    ///
+    /// ```
+    /// use callfilter::Filter;
+    ///
+    /// let one_call = [1, 0, 0, 0, 1, 0, 5, 0, 0, 0, 255, 127, 1, 0, 0, 0, 3, 0, 0, 0, 0, 0, 0, 0];
+    /// assert!(Filter::compile_search(&one_call)?.len() <= Filter::compile(&one_call)?.len());
+    /// assert_eq!(Filter::compile_search(&[]), Filter::compile(&[]));
+    /// # Ok::<(), callfilter::Error>(())
+    /// ```
+    pub fn compile_search(set: &[u8]) -> Result<Filter, Error> {
+        Filter::compiled(set, boundary::compile_search)
+    }
+
+    fn compiled(set: &[u8], by: fn(&[u8], &mut [sock_filter]) -> boundary::Answer) -> Result<Filter, Error> {
         let mut instructions = vec![sock_filter::default(); LONGEST];
-        let answer = boundary::compile(set, &mut instructions);
+        let answer = by(set, &mut instructions);
         if answer.code != 0 {
             return Err(reading::refusal(answer, set));
         }

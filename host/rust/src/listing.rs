@@ -204,13 +204,14 @@ fn question(instruction: &sock_filter, known: Known) -> String {
         (true, Some(ARCHITECTURE), Some(architecture)) => return format!("{architecture}?"),
         _ => {}
     }
-    let sign = match name(instruction.code) {
-        "jeq" => "=",
-        "jgt" => ">",
-        "jge" => "≥",
-        _ => "any bit of",
+    let call = if known.word == Some(NUMBER) { "call " } else { "" };
+    let asked = match name(instruction.code) {
+        "jeq" => format!("{call}="),
+        "jgt" => format!("{call}>"),
+        "jge" => format!("{call}≥"),
+        _ => "any bit of".to_owned(),
     };
-    format!("{sign} {}?", operand(instruction))
+    format!("{asked} {}?", operand(instruction))
 }
 
 fn answers(instruction: &sock_filter, at: usize) -> String {

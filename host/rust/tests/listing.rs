@@ -82,6 +82,26 @@ fn what_is_known_is_what_holds_on_all_ways() {
 }
 
 #[test]
+fn a_search_compares_calls() -> Result<(), Error> {
+    let mut set = RuleSet::new(Architecture::X86_64, Action::Errno(1), Action::Allow);
+    for number in [1, 2, 3, 7] {
+        set.call(number);
+    }
+    assert_eq!(
+        texts(&set.compile_search()?)[4..],
+        [
+            "jge 7 call ≥ 7? yes → 7",
+            "jge 1 call ≥ 1? no → 9",
+            "jgt 3 call > 3? yes → 9 no → 8",
+            "jeq 7 call 7? no → 9",
+            "ret 0x7fff0000 allow",
+            "ret 0x50001 errno 1",
+        ]
+    );
+    Ok(())
+}
+
+#[test]
 fn arrows_meet_and_cross() {
     let drawn = filter(&[(0x15, 2, 1, 1), (0x05, 0, 0, 2), (0x15, 1, 0, 2), (0x06, 0, 0, 0), (0x06, 0, 0, 0)]).to_string();
     let gutters: Vec<String> = drawn.lines().map(|line| line.chars().take(5).collect()).collect();

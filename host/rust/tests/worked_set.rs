@@ -71,6 +71,46 @@ fn its_filter_returns_what_it_means_for_ten_calls() {
 }
 
 #[test]
+fn its_search_is_shorter_and_returns_the_same() {
+    let set = worked_set().unwrap();
+    let (list, search) = (set.compile().unwrap(), set.compile_search().unwrap());
+    assert_eq!((list.len(), search.len()), (36, 27));
+    assert_eq!(Filter::compile_search(&bytes(SET)).as_ref(), Ok(&search));
+    assert_eq!(Filter::from_bytes(&search.to_bytes()).as_ref(), Ok(&search));
+    let words = [0, 1, 2, 3, 4, (1 << 32) - 1, 1 << 32, (1 << 32) + 1, u64::MAX];
+    for architecture in Architecture::ALL {
+        for number in [0, 1, 2, 256, 257, 258, 1 << 31, u32::MAX] {
+            for arguments in words.map(|first| words.map(|last| [first, first, last, 0, 0, 0])).concat() {
+                let call = Call::new(architecture, number, arguments);
+                let (by_list, by_search) = (list.run(&call), search.run(&call));
+                assert_eq!(by_search.word, by_list.word, "{call:?}");
+                assert!(by_search.steps <= by_list.steps, "{call:?}");
+            }
+        }
+    }
+}
+
+#[test]
+fn a_search_over_many_calls_returns_what_the_set_means() {
+    let mut set = RuleSet::new(Architecture::X86_64, Action::Trap, Action::Log);
+    for number in (0..1200).filter(|number| number % 5 != 3) {
+        let listed = set.call(number);
+        if number % 15 == 0 {
+            listed.rule(&[Condition::new(0, Width::Qword, Operator::Gt, u64::from(number)).unwrap()]);
+        }
+    }
+    let (list, search) = (set.compile(), set.compile_search().unwrap());
+    assert!(matches!(list, Err(Error::TooManyInstructions { .. })));
+    for (number, argument) in (0..1210).flat_map(|number| [0, 1, 1 << 32].map(|more| (number, u64::from(number) + more))) {
+        let call = Call::new(Architecture::X86_64, number, [argument, 0, 0, 0, 0, 0]);
+        let outcome = search.run(&call);
+        assert_eq!(outcome.action(), Some(set.decide(&call).unwrap()), "{call:?}");
+        // at most 2^9 spans, and a condition with its two returns
+        assert!(outcome.steps <= 9 + 9 + 1 + 9, "{call:?}: {}", outcome.steps);
+    }
+}
+
+#[test]
 fn every_operator_and_width_compares_as_it_says() {
     let around = |edge: u64| [edge.wrapping_sub(1), edge, edge.wrapping_add(1)];
     let numbers: Vec<u64> = [0, 1 << 31, 1 << 32, 5 << 32, 1 << 63].into_iter().flat_map(around).collect();

@@ -34,9 +34,11 @@ fn in_condition(entry: usize, call: u32, rule: usize, condition: usize) -> Place
     Place { condition: Some(condition), ..in_rule(entry, call, rule) }
 }
 
+// reading it, and compiling it into either form
 fn both(bytes: &[u8]) -> Error {
     let refused = RuleSet::from_bytes(bytes).unwrap_err();
     assert_eq!(Filter::compile(bytes).unwrap_err(), refused);
+    assert_eq!(Filter::compile_search(bytes).unwrap_err(), refused);
     refused
 }
 
@@ -168,10 +170,10 @@ fn a_filter_that_is_too_long_is_counted() {
     longest.call(816).rule(&[Condition::new(0, Width::Qword, Operator::MaskedEq(1), 1).unwrap()]);
     assert_eq!(longest.compile().unwrap().len(), 4096);
     for (number, count) in [(900, 4101), (901, 4106)] {
-        assert_eq!(longest.call(number).compile(), Err(Error::TooManyInstructions { count, place: in_entry(817, 900) }));
+        assert_eq!(longest.call(number).compile(), Err(Error::TooManyInstructions { count, place: Some(in_entry(817, 900)) }));
     }
     set.call(818);
-    assert_eq!(set.compile(), Err(Error::TooManyInstructions { count: 4100, place: in_entry(818, 818) }));
+    assert_eq!(set.compile(), Err(Error::TooManyInstructions { count: 4100, place: Some(in_entry(818, 818)) }));
     // it has a meaning and a byte form all the same
     assert_eq!(set.decide(&Call::new(Architecture::X86_64, 818, [0; 6])), Ok(Action::Allow));
     assert_eq!(RuleSet::from_bytes(&set.to_bytes().unwrap()).as_ref(), Ok(&set));
@@ -179,9 +181,37 @@ fn a_filter_that_is_too_long_is_counted() {
     let mut bytes = set.call(900).rule(&[condition()]).to_bytes().unwrap();
     let value = bytes.len() - 16;
     bytes[value + 4] = 1;
-    assert_eq!(Filter::compile(&bytes), Err(Error::TooManyInstructions { count: 4107, place: in_entry(818, 818) }));
+    assert_eq!(Filter::compile(&bytes), Err(Error::TooManyInstructions { count: 4107, place: Some(in_entry(818, 818)) }));
     let refused = Error::MoreThan32Bits { number: 1 << 32 | 1, place: Some(in_condition(819, 900, 0, 0)) };
     assert_eq!(RuleSet::from_bytes(&bytes), Err(refused));
+}
+
+#[test]
+fn a_search_that_is_too_long_is_counted_without_an_entry() {
+    // a span each, so that there is a question for each
+    let spread = |count: u32| {
+        let mut set = plain();
+        for number in 0..count {
+            set.call(2 * number);
+        }
+        set
+    };
+    assert_eq!(spread(3018).compile_search().unwrap().len(), 4096);
+    let refused = spread(3019).compile_search().unwrap_err();
+    assert_eq!(refused, Error::TooManyInstructions { count: 4097, place: None });
+    assert_eq!(refused.place(), None);
+    assert_eq!(
+        refused.to_string(),
+        "the filter would have 4097 instructions, and at most 4096 are compiled: list fewer calls or conditions"
+    );
+    assert_eq!(Filter::compile_search(&spread(3019).to_bytes().unwrap()), Err(refused));
+    // one span, however many
+    let mut row = plain();
+    for number in 0..819 {
+        row.call(number);
+    }
+    assert_eq!(row.compile(), Err(Error::TooManyInstructions { count: 4100, place: Some(in_entry(818, 818)) }));
+    assert_eq!(row.compile_search().unwrap().len(), 7);
 }
 
 #[test]
@@ -279,8 +309,11 @@ fn errors_are_told_as_errors() {
             Error::MoreThan32Bits { number: 1 << 32, place: Some(place) },
             "entry 3 (call 257), rule 0, condition 2: a dword condition looks at 32 bits, and 0x100000000 has more",
         ),
-        (Error::TooManyInstructions { count: 4100, place: in_entry(818, 818) }, "entry 818 (call 818): with it the filter gets too long"),
-        (Error::TooManyInstructions { count: 4100, place: in_entry(818, 818) }, "4100 instructions, and at most 4096 are compiled"),
+        (
+            Error::TooManyInstructions { count: 4100, place: Some(in_entry(818, 818)) },
+            "entry 818 (call 818): with it the filter gets too long",
+        ),
+        (Error::TooManyInstructions { count: 4100, place: Some(in_entry(818, 818)) }, "4100 instructions, and at most 4096 are compiled"),
         (Error::AlwaysAndByRules(5), "call 5 is listed without rules, to match always, and once more with rules"),
         (Error::SetTooLong, "more than 1 MiB"),
         (Error::NotTaken, "the kernel would not take these bytes as a filter"),

@@ -2,8 +2,7 @@
 use native.Mathlib.Omega.{arith}
 use mathlib.Core.Path.{refl}
 use denote.Ref.{now}
-use Rattle.theorems.proofs.Compiled.{refused}
-use Rattle.callfilter.proofs.Laws.{writable, done-compiled}
+use Rattle.callfilter.proofs.Laws.{refused-compiled, writable, done-compiled}
 use borrow.Author.Needs.{needs}
 use Rattle.callfilter.proofs.callfilter_compile.Statement.{statement}
 use Rattle.callfilter.proofs.callfilter_compile.Tie as tie
@@ -12,7 +11,7 @@ verdict-requires : tie.Need-verdict-requires
 verdict-requires c κs = search needs
 
 returns : tie.Need-returns
-returns c = refused (c .before .before .verdict .ensures) (c .if1 .taken) refl
+returns c = refused-compiled (c .before .before .verdict .ensures) (c .if1 .taken) refl
 
 put-filter-requires : tie.Need-put-filter-requires
 put-filter-requires c κs =

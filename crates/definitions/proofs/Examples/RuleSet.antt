@@ -10,7 +10,7 @@ use Rattle.definitions.specs.declared.Width.{Width}
 use Rattle.definitions.specs.declared.Width.the-variants.{Dword, Qword}
 use Rattle.definitions.specs.declared.Condition.{Condition}
 use Rattle.definitions.specs.Machine.{Call}
-use Rattle.definitions.specs.RuleSet.{x86-64, architectureWord, Rule, RuleSet, oneOf, isAction, test, holds, allHold, anyHolds, matches, listed, meaning}
+use Rattle.definitions.specs.RuleSet.{Entry, x86-64, architectureWord, Rule, RuleSet, oneOf, isAction, test, holds, allHold, anyHolds, matches, listed, meaning, spanCount, rulesOf}
 use Rattle.definitions.specs.Answer.{all}
 
 abbrev pub compared : Operator → Width → ℕ → ℕ → ℕ → Condition
@@ -98,3 +98,20 @@ actions : (all isAction (0x80000000 ∷ 0 ∷ 0x00030000 ∷ 0x00050000 ∷ 0x00
     × (all (λ (w : ℕ). not (isAction w)) (1 ∷ 0x00030001 ∷ 0x00040000 ∷ 0x00060000 ∷ 0x7fc00001 ∷ 0x7fc0ffff ∷ 0x7ffc0001 ∷ 0x7fff0001 ∷ 0x80000001 ∷ []) ≡ true)
 unfolding isAction oneOf
 actions = (refl, refl)
+
+-- ---- how the listed numbers lie
+
+abbrev lone : ℕ → Entry
+lone n = record { number = n; rules = [] }
+
+abbrev checked : ℕ → Entry
+checked n = record { number = n; rules = (compared Eq Dword 0 1 0 ∷ []) ∷ [] }
+
+-- 1 to 3, 5, 6 with its rule, 7, 8 to 9 with rules each
+spans : (spanCount (lone 1 ∷ lone 2 ∷ lone 3 ∷ lone 5 ∷ checked 6 ∷ lone 7 ∷ checked 8 ∷ checked 9 ∷ []) ≡ 6) × (spanCount [] ≡ 0)
+unfolding spanCount
+spans = (refl, refl)
+
+rules-found : (rulesOf 6 (lone 5 ∷ checked 6 ∷ []) ≡ (compared Eq Dword 0 1 0 ∷ []) ∷ []) × (rulesOf 5 (lone 5 ∷ checked 6 ∷ []) ≡ [])
+unfolding rulesOf
+rules-found = (refl, refl)

@@ -1,0 +1,15 @@
+pub mod Cases
+pub mod Grow
+pub mod Spans
+pub mod Sizes
+pub mod Shorter
+pub mod Steps
+pub mod Found
+pub mod Bodies
+pub mod Right
+pub mod Quick
+pub mod Shape
+pub mod Taken
+pub mod Bytes
+pub mod Examples
+pub mod Searched

@@ -1,0 +1,44 @@
+-- The theorems of the search form, as statements in the words of the definitions. Each is proved in the file of proofs/ that bears its name.
+use Prim.Native.Nat.{ℕ, _+_, _^_, _≤_}
+use mathlib.Core.Path.{_≡_}
+use mathlib.Core.Bool.{true}
+use lib.ListN.{length}
+use Rattle.definitions.specs.Machine.{filterBytes, filterOf, Call, returns, runs, steps}
+use Rattle.definitions.specs.Kernel.{accepts}
+use Rattle.definitions.specs.RuleSet.{RuleSet, meaning}
+use Rattle.definitions.specs.Emitted.{rulesCode, emitted}
+use Rattle.definitions.specs.Format.{InRange}
+use Rattle.definitions.specs.Answer.{ascending, indicesTaken}
+use Rattle.search.specs.Search.{searchForm}
+use Rattle.search.specs.Counts.{foundSteps, searchMost}
+use Rattle.definitions.specs.RuleSet.{spanCount, rulesOf}
+
+-- it returns, for every call, the action that the rule set means
+abbrev pub Right : Type 0
+Right = (rs : RuleSet) → ascending (rs .entries) ≡ true → indicesTaken rs ≡ true → (c : Call) → runs (searchForm rs) c ≡ returns (meaning rs c)
+
+-- the kernel's checks pass, where it is short enough for the kernel
+abbrev pub Taken : Type 0
+Taken = (rs : RuleSet) → InRange rs → indicesTaken rs ≡ true → length (searchForm rs) ≤ 4096 → accepts (searchForm rs) ≡ true
+
+-- its bytes stand for it, so that all that is said here of the form holds of the bytes
+abbrev pub Bytes : Type 0
+Bytes =
+    (rs : RuleSet) → InRange rs → indicesTaken rs ≡ true → length (searchForm rs) ≤ 4096 → filterOf (filterBytes (searchForm rs)) ≡ searchForm rs
+
+-- it is never longer than the emitted form
+abbrev pub Shorter : Type 0
+Shorter = (rs : RuleSet) → length (searchForm rs) ≤ length (emitted rs)
+
+-- with at most 2 ^ k spans, a run takes searchMost k instructions at most, and beside them a return, or what the number's rules take by
+-- themselves
+abbrev pub Quick : Type 0
+Quick =
+    (rs : RuleSet) → ascending (rs .entries) ≡ true → indicesTaken rs ≡ true → (c : Call) (k : ℕ) → spanCount (rs .entries) ≤ 2 ^ k
+    → steps (searchForm rs) c ≤ searchMost k + foundSteps rs c
+
+-- the same, with as many instructions at most for a number's rules as the emitted form has for them: none for a number without rules
+abbrev pub QuickByLength : Type 0
+QuickByLength =
+    (rs : RuleSet) → ascending (rs .entries) ≡ true → indicesTaken rs ≡ true → (c : Call) (k : ℕ) → spanCount (rs .entries) ≤ 2 ^ k
+    → steps (searchForm rs) c ≤ searchMost k + 1 + length (rulesCode (rs .onMatch) (rulesOf (c .number) (rs .entries)))

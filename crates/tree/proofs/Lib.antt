@@ -1,0 +1,3 @@
+pub mod Planting
+pub mod Halving
+pub mod Planted

@@ -1,0 +1,88 @@
+-- Laws of the tree of a whole rule set, planted in front of the code of its rules, and of the filter that they make. Assumes nothing.
+use mathlib.Core.Path.{_≡_, refl, sym, _∙_}
+use mathlib.Core.Bool.{false}
+use mathlib.Core.List.{List, [], _∷_, _++_}
+use Prim.Native.Nat.{ℕ, zero, suc, _+_, _*_, _≤_}
+use native.Mathlib.Omega.{arith}
+use lib.ListN.{length, take}
+use lib.Seq.{take-length}
+use Rattle.definitions.specs.declared.Instruction.{Instruction}
+use Rattle.definitions.specs.Word.{numberAt}
+use Rattle.definitions.specs.Machine.{instructionBytes, filterBytes}
+use Rattle.definitions.specs.RuleSet.{architectureWord, killProcess}
+use Rattle.definitions.specs.Emitted.{load, ifEqual, return}
+use Rattle.bpf.specs.Place.{place}
+use Rattle.bpf.proofs.Laws.{put-first, puts-before, before-is}
+use Rattle.filter.specs.At.{namedArchitecture, entriesHere, setHere}
+use Rattle.search.specs.Search.{jumpReach, blockReach, toMismatch, toMatch, toRules, Tree, leaf, node, block, grow, Form, plantLeaf, openBlock, plant, ground, tree, searchNumbers, searchForm}
+use Rattle.search.proofs.Sizes.{place-adds, return-adds, compare-size}
+use Rattle.bodies.specs.Here.{bodiesHere}
+use Rattle.runs.specs.Spans.{spansHere}
+use Rattle.tree.specs.declared.Marks.{Marks}
+use Rattle.tree.specs.Forms.{plantedHere, searchedHere, Ends, Makes}
+
+-- ---- the tree in front
+
+pub planted-there : (s : List ℕ) (n total runs m d : ℕ) {end : ℕ} {r : Marks} {old new : List ℕ} → m ≡ numberAt 4 s 8 → d ≡ numberAt 4 s 4
+    → total ≡ length (bodiesHere s n 16) → runs ≡ length (spansHere s n 16)
+    → Makes end (record { count = total; hit = 0; miss = 1; at = 1 }) r old new (plant m d (grow runs false 0 0 (take runs (spansHere s n 16))))
+    → (z : List ℕ) → Ends z end (bodiesHere s n 16) old → (r .count ≡ length (plantedHere s n)) × Ends z end (plantedHere s n) new
+unfolding tree ground
+planted-there s n total runs m d em ed et er made z w =
+    let es = entriesHere s n 16 in
+    let h = made z (ground m d es) (record { count = rw (em, ed) (sym et); hit = refl; miss = refl; at = refl; code = rw (em, ed) w }) in
+    let g = rw (er, take-length (spansHere s n 16), em, ed) at h in
+    (sym (g .count), g .code)
+
+-- planting only adds
+plant-longer : (m d : ℕ) (t : Tree) (f : Form) → length (f .code) ≤ length (plant m d t f .code)
+unfolding plant plantLeaf openBlock
+plant-longer m d (leaf toMismatch) f = return-adds jumpReach d (f .mismatchReturn) (f .code) .grew
+plant-longer m d (leaf toMatch) f = return-adds jumpReach m (f .matchReturn) (f .code) .grew
+plant-longer m d (leaf (toRules at)) f = place-adds at (f .code) .grew
+plant-longer m d (node t n hit miss) f =
+    let one = plant m d hit f in
+    let two = plant m d miss one in
+    omega (arith, plant-longer m d hit f, plant-longer m d miss one, compare-size t n (one .at) two .0, place-adds (one .at) (two .code) .grew)
+plant-longer m d (block t) f = omega (arith, return-adds blockReach d (f .mismatchReturn) (f .code) .grew, plant-longer m d t (openBlock d f))
+
+pub planted-longer : (s : List ℕ) (n : ℕ) → length (bodiesHere s n 16) ≤ length (plantedHere s n)
+unfolding ground
+planted-longer s n = plant-longer (numberAt 4 s 8) (numberAt 4 s 4) _ (ground (numberAt 4 s 8) (numberAt 4 s 4) (entriesHere s n 16))
+
+-- ---- the whole filter
+
+pub searched-none : (s : List ℕ) (n : ℕ) → n ≡ 0 → searchedHere s n ≡ return (numberAt 4 s 4) ∷ []
+unfolding searchNumbers entriesHere
+searched-none s n e = rw e
+
+pub searched-some : (s : List ℕ) (n : ℕ) → (n ≡ 0 → ⊥) → searchedHere s n ≡ load 0 ∷ plantedHere s n
+unfolding searchNumbers entriesHere
+searched-some s zero h = absurd (h refl)
+searched-some s (suc n) h = refl
+
+pub search-is : (s : List ℕ)
+    → searchForm (setHere s)
+    ≡ (load 4 ∷ ifEqual (architectureWord (namedArchitecture (numberAt 4 s 0))) 1 0 ∷ return killProcess ∷ []) ++ searchedHere s (numberAt 4 s 12)
+unfolding searchForm setHere
+search-is s = refl
+
+pub search-long : (s : List ℕ) → length (searchForm (setHere s)) ≡ 3 + length (searchedHere s (numberAt 4 s 12))
+search-long s = rw (search-is s) (omega arith)
+
+-- code that is there ends where it was to end
+pub planted-put : (z out new : List ℕ) (count : ℕ) (p : List Instruction) → count ≡ 4 + length p → 8 * count ≤ length z → Ends z (8 * count) p out
+    → new ≡ place out 24 (instructionBytes (load 0)) → new ≡ place z 24 (filterBytes (load 0 ∷ p))
+planted-put z out new count p e room w o =
+    o
+    ∙ rw (w .there (omega arith), before-is z (8 * count) 32 p (omega arith), put-first (place z 32 (filterBytes p)) 24 (load 0))
+    (puts-before z 24 32 (load 0 ∷ []) p (omega arith) (omega arith))
+
+-- the code of the rules is put where it is to end
+pub bodies-put : (z out : List ℕ) (end at : ℕ) (p : List Instruction) → at + 8 * length p ≡ end → end ≤ length z → out ≡ place z at (filterBytes p)
+    → Ends z end p out
+bodies-put z out end at p e room o = record { room = room; there = λ h. o ∙ sym (before-is z end at p e) }
+
+-- where there is no room, any code that is not empty ends there
+pub no-room : (z out : List ℕ) (p : List Instruction) → 1 ≤ length p → Ends z 0 p out
+no-room z out p h = record { room = omega arith; there = λ i. absurd (omega arith) }

@@ -1,0 +1,54 @@
+-- `put_planted` meets its contract: the tree of all runs, with the code of the rules as its ground. Assumes nothing.
+use mathlib.Core.Path.{sym}
+use native.Mathlib.Omega.{arith}
+use borrow.Author.Needs.{needs}
+use denote.Ref.{now}
+use Rattle.definitions.specs.Word.{numberAt}
+use Rattle.bodies.proofs.Laws.{bodies-there, entries-eight}
+use Rattle.runs.proofs.Reading.{spans-there}
+use Rattle.tree.proofs.Planted.{planted-there}
+use Rattle.tree.proofs.put_planted.Statement.{statement}
+use Rattle.tree.proofs.put_planted.Tie as tie
+
+u32-at-requires : tie.Need-u32-at-requires
+u32-at-requires c κs = search needs
+
+u32-at-requires-2 : tie.Need-u32-at-requires-2
+u32-at-requires-2 c κs = search needs
+
+count-runs-requires : tie.Need-count-runs-requires
+count-runs-requires c κs = search needs
+
+put-tree-requires : tie.Need-put-tree-requires
+put-tree-requires c κs =
+    let a = c .before .before .before .before .before .before .args in
+    let s = now (a .s) in
+    let b = bodies-there s (a .n) 16 (numberAt 4 s 8) (numberAt 4 s 4) in
+    let t = spans-there s (a .n) 16 (c .before .before .before .before .before .before .pre .0 .4) in
+    let e = entries-eight s (a .n) 16 in (
+      (record { inside = c .before .before .before .before .before .before .pre .0 .3; size = c .before .before .before .before .before .before .pre .0 .2; place = sym (c .before .before .before .before .before .before .pre .1 .0) }, omega (arith, c .before .count-runs .ensures), omega arith, λ z. omega (arith, c .before .count-runs .ensures)),
+      omega (arith, c .before .before .before .before .before .before .pre .0, c .before .before .before .before .before .before .pre .1, c .before .count-runs .ensures),
+    )
+
+same-length : tie.Need-same-length
+same-length c = search needs
+
+returns : tie.Need-returns
+returns c =
+    let a = c .before .before .before .before .before .before .before .before .before .args in
+    let s = now (a .s) in
+    let e = entries-eight s (a .n) 16 in (
+      omega (arith, c .before .before .put-tree .ensures .0, c .before .before .before .before .before .before .before .before .before .pre .0, c .before .before .before .before .before .before .before .before .before .pre .1, c .before .before .before .before .count-runs .ensures),
+      planted-there s (a .n) (a .total) (c .before .before .before .before .count-runs .result) (c .before .before .before .before .before .before .u32-at .result) (c .before .before .before .before .before .u32-at2 .result) (c .before .before .before .before .before .before .u32-at .ensures) (c .before .before .before .before .before .u32-at2 .ensures) (c .before .before .before .before .before .before .before .before .before .pre .1 .0) (c .before .before .before .before .count-runs .ensures .0) (c .before .before .put-tree .ensures .1 (c .before .before .before .before .count-runs .result) (omega arith)),
+    )
+
+pub put-planted-spec : {M : Type 1} → statement M
+put-planted-spec =
+    tie.close
+    (tie.spec
+    u32-at-requires
+    u32-at-requires-2
+    count-runs-requires
+    put-tree-requires
+    same-length
+    returns)
