@@ -16,7 +16,8 @@ use Rattle.rule.specs.At.{conditionsHere, rulesHere}
 use Rattle.rule.proofs.Laws.{rule-is-long}
 use Rattle.filter.specs.At.{entryHere, entryPast, entriesHere, entriesPast}
 use Rattle.filter.proofs.Laws.{entry-further, entry-inside}
-use Rattle.search.specs.Search.{ruleBody, ruleBodies, entryBody, bodies}
+use Rattle.search.specs.Search.{bodies}
+use Rattle.definitions.specs.Emitted.{ruleBody, ruleBodies, entryBody}
 use Rattle.search.proofs.Shorter.{rules-shorter}
 
 -- ---- a rule: the return, and the conditions in front of it

@@ -141,3 +141,18 @@ unfoldable pub emitted : RuleSet → List Instruction
 emitted rs =
     load 4 ∷ ifEqual (architectureWord (rs .architecture)) 1 0 ∷ return killProcess
     ∷ numbersCode (rs .onMatch) (rs .mismatch) (rs .entries)
+
+-- ---- a number's rules by themselves
+
+-- a rule without the two jumps that the emitted form has in front of it
+unfoldable pub ruleBody : ℕ → Rule → List Instruction
+ruleBody m qs = conditionsCode qs 1 ++ (return m ∷ [])
+
+unfoldable pub ruleBodies : ℕ → List Rule → List Instruction
+ruleBodies m [] = []
+ruleBodies m (r ∷ rs) = ruleBody m r ++ ruleBodies m rs
+
+-- a number without rules has no code of its own
+unfoldable pub entryBody : ℕ → ℕ → List Rule → List Instruction
+entryBody m d [] = []
+entryBody m d (r ∷ rs) = ruleBodies m (r ∷ rs) ++ (return d ∷ [])

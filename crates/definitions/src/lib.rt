@@ -54,7 +54,7 @@ pub struct Answer {
 }
 
 // What asking about a call answers. Of a filter: 0 with the action and the number of instructions executed, or 1 for a filter that the
-// kernel would not take. Of a rule set: 0 with the action, or the answer 1 to 5 that compiling it gives. And 9 for a call that is not
+// kernel would not take. Of a rule set: 0 with the action, or the answer 1 to 5 or 8 that compiling gives. And 9 for a call that is not
 // 64 bytes.
 #[repr(C)]
 pub struct Outcome {

@@ -19,8 +19,9 @@ use Rattle.theorems.proofs.Steps.{run-jump, run-return, skip1, skip2, skip-one}
 use Rattle.theorems.proofs.Conditions.{Goes, condition-right, cond-and, cond-or}
 use Rattle.theorems.proofs.Rules.{IndexTaken, jump-over}
 use Rattle.theorems.proofs.Right.{EntryTaken}
-use Rattle.search.specs.Search.{ruleBody, ruleBodies, entryBody, bodies, toMatch, toRules, Span, entrySpans, spans, ground}
-use Rattle.search.specs.Counts.{rulesSteps}
+use Rattle.search.specs.Search.{bodies, toMatch, toRules, Span, entrySpans, spans, ground}
+use Rattle.definitions.specs.Emitted.{ruleBody, ruleBodies, entryBody}
+use Rattle.definitions.specs.Compiled.{rulesSteps}
 use Rattle.definitions.specs.RuleSet.{rulesOf}
 use Rattle.search.proofs.Grow.{seek, Sorted}
 use Rattle.search.proofs.Spans.{seek-alone, seek-plain, Rising, spans-sorted}

@@ -11,7 +11,8 @@ use Rattle.definitions.specs.RuleSet.{x86-64, architectureWord, Entry, RuleSet}
 use Rattle.definitions.specs.Emitted.{load, maskBy, ifEqual, ifGreater, ifAtLeast, return, highTests, lowTests, highPart, lowPart, conditionCode, helpers, near, stepCode, stepDistance, conditionsCode}
 use Rattle.definitions.proofs.Examples.RuleSet.{compared, allow, errno, call}
 use Rattle.definitions.proofs.Examples.Emitted.{worked}
-use Rattle.search.specs.Search.{ruleBody, ruleBodies, entryBody, bodies, plainSpans, entrySpans, spans, endsBy, upTo, link, chain, singles, few, lowest, blockIf, grow, away, nearPlace, nearReturn, plantLeaf, openBlock, comparing, compareFirst, plant, ground, tree, searchNumbers, searchForm}
+use Rattle.search.specs.Search.{bodies, plainSpans, entrySpans, spans, endsBy, upTo, link, chain, singles, few, lowest, blockIf, grow, away, nearPlace, nearReturn, plantLeaf, openBlock, comparing, compareFirst, plant, ground, tree, searchNumbers, searchForm}
+use Rattle.definitions.specs.Emitted.{ruleBody, ruleBodies, entryBody}
 
 -- the worked rule set: 27 instructions, where the emitted form has 36
 worked-form : searchForm worked ≡

@@ -11,10 +11,12 @@ use Rattle.definitions.specs.Emitted.{ifEqual, return, rulesCode}
 use Rattle.theorems.proofs.Steps.{fetch-architecture}
 use Rattle.theorems.proofs.Right.{each-index}
 use Rattle.theorems.proofs.Once.{once}
-use Rattle.search.specs.Search.{ruleBodies, entryBody, searchNumbers, searchForm}
-use Rattle.search.specs.Counts.{rulesSteps, searchMost}
+use Rattle.search.specs.Search.{searchNumbers, searchForm}
+use Rattle.definitions.specs.Emitted.{ruleBodies, entryBody}
+use Rattle.search.specs.Counts.{searchMost}
+use Rattle.definitions.specs.Compiled.{rulesSteps}
 use Rattle.definitions.specs.RuleSet.{rulesOf}
-use Rattle.search.specs.Statements.{Quick, QuickByLength}
+use Rattle.search.specs.Statements.{Quick}
 use Rattle.search.proofs.Spans.{rising, spans-count}
 use Rattle.search.proofs.Shorter.{rules-shorter}
 use Rattle.search.proofs.Steps.{count-load, count-equal, count-skip, count-return}
@@ -38,18 +40,3 @@ quick rs up taken c k l =
     go : (t : Bool) (n r : ℕ) → n ≤ r + (k + 3 + (k - 6)) + 1 → suc (suc (cond t n 1)) ≤ searchMost k + r
     go true n r h = omega arith
     go false n r h = omega arith
-
-rules-steps : (m d : ℕ) (rs : List Rule) (c : Call) → rulesSteps m d rs c ≤ 1 + length (rulesCode m rs)
-unfolding rulesSteps entryBody
-rules-steps m d [] c = omega arith
-rules-steps m d (r ∷ rs) c =
-    omega (
-      arith,
-      once (entryBody m d (r ∷ rs)) c .1,
-      length-append (ruleBodies m (r ∷ rs)) (return d ∷ []),
-      rules-shorter m (r ∷ rs),
-    )
-
-pub quick-by-length : QuickByLength
-quick-by-length rs up taken c k l =
-    omega (arith, quick rs up taken c k l, rules-steps (rs .onMatch) (rs .mismatch) (rulesOf (c .number) (rs .entries)) c)

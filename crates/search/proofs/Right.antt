@@ -13,7 +13,7 @@ use Rattle.definitions.specs.Format.{Each}
 use Rattle.theorems.proofs.Steps.{run-load, run-return, run-equal, skip1, fetch-number, fetch-architecture}
 use Rattle.theorems.proofs.Right.{EntryTaken, each-index}
 use Rattle.search.specs.Search.{Span, spans, grow, Form, plant, ground, tree, searchNumbers, searchForm}
-use Rattle.search.specs.Counts.{rulesSteps}
+use Rattle.definitions.specs.Compiled.{rulesSteps}
 use Rattle.definitions.specs.RuleSet.{rulesOf}
 use Rattle.search.specs.Statements.{Right}
 use Rattle.search.proofs.Grow.{seek, find, tree-right}

@@ -26,7 +26,7 @@ use Rattle.search.proofs.Right.{right}
 use Rattle.search.proofs.Taken.{taken}
 use Rattle.search.proofs.Bytes.{search-back}
 use Rattle.search.proofs.Shorter.{shorter}
-use Rattle.search.proofs.Quick.{quick-by-length}
+use Rattle.search.proofs.Quick.{quick}
 
 pub refused : {set before after : List ℕ} {r : Answer} → r ≡ answerBy searchSize (λ rs. noFault) (read set) (length before) → (r .code ≡ 0 → ⊥) → after ≡ before
     → Searched searchSize set before after r
@@ -48,7 +48,7 @@ done set before after r rs are a k p =
       shorter = shorter;
       quick = λ z other f c n most.
           rw (compiled.one-set set rs other (k .from) f, compiled.filter-is set before after r rs (searchForm rs) (k .from) (k .said) p, back)
-          (quick-by-length rs up indices c n (rw (compiled.one-set set rs other (k .from) f) at most));
+          (quick rs up indices c n (rw (compiled.one-set set rs other (k .from) f) at most));
       behaves = compiled.behaves set before after r rs (searchForm rs) (k .from) (k .said) p (λ c. rw back (right rs up indices c))
           (true-both (eq-eqb (length (filterBytes (searchForm rs)) % 8) 0 (omega arith)) (rw back (taken rs ranged indices short)));
     }

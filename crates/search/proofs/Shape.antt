@@ -17,63 +17,15 @@ use Rattle.definitions.specs.Word.{bytesOf}
 use Rattle.definitions.specs.Emitted.{return, conditionsCode, ruleCode, rulesCode, bodyCode, entryCode, entriesCode, numbersCode, emitted}
 use Rattle.theorems.specs.Shape.{LandsAs, Shaped}
 use Rattle.theorems.proofs.Tests.{both-true, true-both}
-use Rattle.theorems.proofs.Taken.{emitted-sound}
+use Rattle.theorems.proofs.Taken.{each-taken, scratch-taken, emitted-sound}
 
 -- ---- code of this shape is taken
-
--- what the forward pass does at an instruction that reads no scratch word: it goes on
-abbrev Passes : Kind → Instruction → Type 0
-Passes k i = (here : Words) (beyond : ℕ → Words) (rest : Words → (ℕ → Words) → Bool) → ((w : Words) (f : ℕ → Words) → rest w f ≡ true)
-    → scratchNext (effectAs k i) here beyond rest ≡ true
-
-module _ (i : Instruction) (at n behind : ℕ) (e : n ≡ at + 1 + behind) where
-  lands-taken : (k : Kind) → LandsAs k i behind → (takenAs k i at n ≡ true) × Passes k i
-  unfolding LandsAs takenAs effectAs scratchNext
-  lands-taken ldAbs h = (true-both (eq-eqb _ _ (h .0)) (lt-ltb _ _ (h .1)), λ v f rest again. again v f)
-  lands-taken ldLen h = absurd h
-  lands-taken ldImm h = absurd h
-  lands-taken ldMem h = absurd h
-  lands-taken ldxLen h = absurd h
-  lands-taken ldxImm h = absurd h
-  lands-taken ldxMem h = absurd h
-  lands-taken st h = absurd h
-  lands-taken stx h = absurd h
-  lands-taken tax h = absurd h
-  lands-taken txa h = absurd h
-  lands-taken neg h = absurd h
-  lands-taken ja h = (lt-ltb (at + 1 + i .k) n (omega arith), λ v f rest again. again _ _)
-  lands-taken retK h = (refl, λ v f rest again. again v f)
-  lands-taken retA h = absurd h
-  lands-taken unknown h = absurd h
-  lands-taken (alu o x) h = (h, λ v f rest again. again v f)
-  lands-taken (jump t x) h = (true-both (lt-ltb (at + 1 + i .jt) n (omega arith)) (lt-ltb (at + 1 + i .jf) n (omega arith)), λ v f rest again. again _ _)
-
-each-taken : (at n : ℕ) (p : List Instruction) → n ≡ at + length p → Shaped p → eachTaken at n p ≡ true
-unfolding eachTaken Shaped
-each-taken at n [] e h = refl
-each-taken at n (i ∷ p) e h =
-    true-both (lands-taken i at n (length p) (omega arith) (kindOf (i .code)) (h .0) .0) (each-taken (at + 1) n p (omega arith) (h .2))
-
-scratch-taken : (p : List Instruction) → Shaped p → (written : Words) (ahead : ℕ → Words) → scratchTaken written ahead p ≡ true
-unfolding scratchTaken Shaped effectOf
-scratch-taken [] h written ahead = refl
-scratch-taken (i ∷ p) h written ahead =
-    lands-taken i 0 (1 + length p) (length p) (omega arith) (kindOf (i .code)) (h .0) .1 _ _ (λ w f. scratchTaken w f p) (scratch-taken p (h .2))
 
 pub shaped-taken : (p : List Instruction) → Shaped p → endsInReturn p ≡ true → 1 ≤ length p → length p ≤ 4096 → accepts p ≡ true
 unfolding accepts
 shaped-taken p h e o l =
     true-both (true-both (true-both (true-both (le-leb 1 (length p) o) (le-leb (length p) 4096 l))
     (each-taken 0 (length p) p (omega arith) h)) e) (scratch-taken p h noWord (λ d. everyWord))
-
-pub ends-cons : (i : Instruction) (p : List Instruction) → endsInReturn p ≡ true → endsInReturn (i ∷ p) ≡ true
-unfolding endsInReturn
-ends-cons i [] h = cc
-ends-cons i (j ∷ p) h = h
-
-pub ends-append : (a p : List Instruction) → endsInReturn p ≡ true → endsInReturn (a ++ p) ≡ true
-ends-append [] p h = h
-ends-append (i ∷ a) p h = ends-cons i (a ++ p) (ends-append a p h)
 
 -- ---- the same code in front of more
 

@@ -8,7 +8,8 @@ use lib.ListN.{length, length-append}
 use borrow.Author.Tests.{eq-eqb}
 use Rattle.definitions.specs.RuleSet.{Rule, Entry}
 use Rattle.definitions.specs.Emitted.{return, ruleCode, rulesCode, bodyCode, entryCode, entriesCode, numbersCode, emitted}
-use Rattle.search.specs.Search.{ruleBody, ruleBodies, entryBody, bodies, Destination, toMatch, toRules, Span, alone, plainSpans, entrySpans, spans, ground, tree, searchNumbers, searchForm}
+use Rattle.search.specs.Search.{bodies, Destination, toMatch, toRules, Span, alone, plainSpans, entrySpans, spans, ground, tree, searchNumbers, searchForm}
+use Rattle.definitions.specs.Emitted.{ruleBody, ruleBodies, entryBody}
 use Rattle.search.specs.Statements.{Shorter}
 use Rattle.search.proofs.Spans.{plain-case, spans-some}
 use Rattle.search.proofs.Sizes.{need, needs, need-least, need-most, lefts-least, Rooted, tree-sized}

@@ -15,13 +15,15 @@ use Rattle.definitions.specs.Answer.{indicesTaken}
 use Rattle.definitions.specs.Emitted.{load, jumpBy, ifEqual, ifGreater, ifAtLeast, return, conditionsCode, emitted}
 use Rattle.theorems.specs.Shape.{LandsAs, Shaped}
 use Rattle.theorems.proofs.Taken.{Sound, action-small, emitted-sound}
-use Rattle.search.specs.Search.{jumpReach, blockReach, ruleBody, ruleBodies, entryBody, bodies, Destination, toMismatch, toMatch, toRules, Span, plainSpans, entrySpans, spans, Comparison, equal, atLeast, above, Tree, leaf, node, block, endsBy, upTo, link, chain, lowest, middle, fitsBlock, blockIf, grow, Form, Spot, away, nearPlace, nearReturn, plantLeaf, openBlock, comparing, compareFirst, plant, ground, tree, searchNumbers, searchForm}
+use Rattle.search.specs.Search.{jumpReach, blockReach, bodies, Destination, toMismatch, toMatch, toRules, Span, plainSpans, entrySpans, spans, Comparison, equal, atLeast, above, Tree, leaf, node, block, endsBy, upTo, link, chain, lowest, middle, fitsBlock, blockIf, grow, Form, Spot, away, nearPlace, nearReturn, plantLeaf, openBlock, comparing, compareFirst, plant, ground, tree, searchNumbers, searchForm}
+use Rattle.definitions.specs.Emitted.{ruleBody, ruleBodies, entryBody}
 use Rattle.search.specs.Statements.{Taken}
 use Rattle.search.proofs.Cases.{cond-case}
 use Rattle.search.proofs.Grow.{isSingle, grown}
 use Rattle.search.proofs.Spans.{plain-case}
 use Rattle.search.proofs.Sizes.{place-adds, return-adds, Near, place-near, return-near}
-use Rattle.search.proofs.Shape.{shaped-taken, ends-cons, ends-append, Small, SmallEntry, rule-shaped, set-small}
+use Rattle.search.proofs.Shape.{shaped-taken, Small, SmallEntry, rule-shaped, set-small}
+use Rattle.theorems.proofs.Taken.{ends-cons, ends-append}
 
 -- ---- one instruction in front
 

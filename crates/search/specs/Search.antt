@@ -11,7 +11,7 @@ use lib.Dec.{eqb, leb, ltb}
 use lib.ListN.{length, take, drop}
 use Rattle.definitions.specs.declared.Instruction.{Instruction}
 use Rattle.definitions.specs.RuleSet.{Rule, Entry, RuleSet, architectureWord, killProcess}
-use Rattle.definitions.specs.Emitted.{load, jumpBy, ifEqual, ifGreater, ifAtLeast, return, conditionsCode}
+use Rattle.definitions.specs.Emitted.{load, jumpBy, ifEqual, ifGreater, ifAtLeast, return, entryBody}
 
 -- ---- how far things may be
 
@@ -33,19 +33,6 @@ abbrev pub chainSpans : ℕ
 chainSpans = 3
 
 -- ---- the code of the rules: match action m, mismatch action d
-
--- a rule without the two jumps that the emitted form has in front of it
-unfoldable pub ruleBody : ℕ → Rule → List Instruction
-ruleBody m qs = conditionsCode qs 1 ++ (return m ∷ [])
-
-unfoldable pub ruleBodies : ℕ → List Rule → List Instruction
-ruleBodies m [] = []
-ruleBodies m (r ∷ rs) = ruleBody m r ++ ruleBodies m rs
-
--- a number without rules has no code of its own
-unfoldable pub entryBody : ℕ → ℕ → List Rule → List Instruction
-entryBody m d [] = []
-entryBody m d (r ∷ rs) = ruleBodies m (r ∷ rs) ++ (return d ∷ [])
 
 -- those of all numbers, with a mismatch return as the last instruction
 unfoldable pub bodies : ℕ → ℕ → List Entry → List Instruction

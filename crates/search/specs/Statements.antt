@@ -6,12 +6,13 @@ use lib.ListN.{length}
 use Rattle.definitions.specs.Machine.{filterBytes, filterOf, Call, returns, runs, steps}
 use Rattle.definitions.specs.Kernel.{accepts}
 use Rattle.definitions.specs.RuleSet.{RuleSet, meaning}
-use Rattle.definitions.specs.Emitted.{rulesCode, emitted}
+use Rattle.definitions.specs.Emitted.{emitted}
 use Rattle.definitions.specs.Format.{InRange}
 use Rattle.definitions.specs.Answer.{ascending, indicesTaken}
 use Rattle.search.specs.Search.{searchForm}
-use Rattle.search.specs.Counts.{foundSteps, searchMost}
-use Rattle.definitions.specs.RuleSet.{spanCount, rulesOf}
+use Rattle.search.specs.Counts.{searchMost}
+use Rattle.definitions.specs.Compiled.{foundSteps}
+use Rattle.definitions.specs.RuleSet.{spanCount}
 
 -- it returns, for every call, the action that the rule set means
 abbrev pub Right : Type 0
@@ -36,9 +37,3 @@ abbrev pub Quick : Type 0
 Quick =
     (rs : RuleSet) → ascending (rs .entries) ≡ true → indicesTaken rs ≡ true → (c : Call) (k : ℕ) → spanCount (rs .entries) ≤ 2 ^ k
     → steps (searchForm rs) c ≤ searchMost k + foundSteps rs c
-
--- the same, with as many instructions at most for a number's rules as the emitted form has for them: none for a number without rules
-abbrev pub QuickByLength : Type 0
-QuickByLength =
-    (rs : RuleSet) → ascending (rs .entries) ≡ true → indicesTaken rs ≡ true → (c : Call) (k : ℕ) → spanCount (rs .entries) ≤ 2 ^ k
-    → steps (searchForm rs) c ≤ searchMost k + 1 + length (rulesCode (rs .onMatch) (rulesOf (c .number) (rs .entries)))

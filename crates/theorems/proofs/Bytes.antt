@@ -58,7 +58,7 @@ filter-back p f =
     let n : 8 * length p / 8 ≡ length p = omega arith in
     rw (length-filter p, n) (instructions-back p [] 0 refl f)
 
-shaped-fits : (p : List Instruction) → Shaped p → Each Fits p
+pub shaped-fits : (p : List Instruction) → Shaped p → Each Fits p
 unfolding Shaped
 shaped-fits [] h = tt
 shaped-fits (i ∷ p) h = (h .1, shaped-fits p (h .2))

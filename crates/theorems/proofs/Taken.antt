@@ -60,7 +60,7 @@ module _ (i : Instruction) (at n behind : ℕ) (e : n ≡ at + 1 + behind) where
   lands-taken (alu o x) h = (h, tt)
   lands-taken (jump t x) h = (true-both (lt-ltb (at + 1 + i .jt) n (omega arith)) (lt-ltb (at + 1 + i .jf) n (omega arith)), tt)
 
-each-taken : (at n : ℕ) (p : List Instruction) → n ≡ at + length p → Shaped p → eachTaken at n p ≡ true
+pub each-taken : (at n : ℕ) (p : List Instruction) → n ≡ at + length p → Shaped p → eachTaken at n p ≡ true
 unfolding eachTaken Shaped
 each-taken at n [] e h = refl
 each-taken at n (i ∷ p) e h =
@@ -76,7 +76,7 @@ scratch-on (jumps d) here beyond rest q again = again _ _
 scratch-on (branches d e) here beyond rest q again = again _ _
 scratch-on leaves here beyond rest q again = again _ _
 
-scratch-taken : (p : List Instruction) → Shaped p → (written : Words) (ahead : ℕ → Words) → scratchTaken written ahead p ≡ true
+pub scratch-taken : (p : List Instruction) → Shaped p → (written : Words) (ahead : ℕ → Words) → scratchTaken written ahead p ≡ true
 unfolding scratchTaken Shaped effectOf
 scratch-taken [] h written ahead = refl
 scratch-taken (i ∷ p) h written ahead =
@@ -90,14 +90,14 @@ pub record Sound (n : ℕ) (p : List Instruction) : Type 0 where
   pub ends : endsInReturn p ≡ true
   pub long : n < length p
 
-ends-append : (a p : List Instruction) → endsInReturn p ≡ true → endsInReturn (a ++ p) ≡ true
+pub ends-cons : (i : Instruction) (p : List Instruction) → endsInReturn p ≡ true → endsInReturn (i ∷ p) ≡ true
 unfolding endsInReturn
+ends-cons i [] h = cc
+ends-cons i (j ∷ p) h = h
+
+pub ends-append : (a p : List Instruction) → endsInReturn p ≡ true → endsInReturn (a ++ p) ≡ true
 ends-append [] p h = h
 ends-append (i ∷ a) p h = ends-cons i (a ++ p) (ends-append a p h)
-  where
-    ends-cons : (i : Instruction) (p : List Instruction) → endsInReturn p ≡ true → endsInReturn (i ∷ p) ≡ true
-    ends-cons i [] h = cc
-    ends-cons i (j ∷ p) h = h
 
 return-sound : (k n : ℕ) (p : List Instruction) → k < 2 ^ 32 → Sound n p → Sound (n + 1) (return k ∷ p)
 unfolding Shaped LandsAs kindOf kindIn codes

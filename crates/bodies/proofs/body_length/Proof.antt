@@ -8,7 +8,7 @@ use lib.ListN.{length}
 use denote.Ref.{now}
 use Rattle.rule.specs.At.{rulesHere}
 use Rattle.rule.proofs.Laws.{past-none}
-use Rattle.search.specs.Search.{entryBody}
+use Rattle.definitions.specs.Emitted.{entryBody}
 use Rattle.bodies.proofs.Laws.{entry-body-none, entry-body-long}
 use Rattle.bodies.proofs.body_length.Statement.{statement}
 use Rattle.bodies.proofs.body_length.Tie as tie

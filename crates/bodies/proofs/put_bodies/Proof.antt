@@ -10,7 +10,8 @@ use Rattle.bpf.proofs.Laws.{write-begin, write-turn, write-room}
 use Rattle.rule.specs.At.{rulesHere}
 use Rattle.filter.specs.At.{entriesHere, entriesPast}
 use Rattle.filter.proofs.Laws.{entry-past, entry-inside, entries-past-more}
-use Rattle.search.specs.Search.{entryBody, bodies}
+use Rattle.search.specs.Search.{bodies}
+use Rattle.definitions.specs.Emitted.{entryBody}
 use Rattle.bodies.proofs.Laws.{entry-room, bodies-more, bodies-last, write-last}
 use Rattle.bodies.proofs.put_bodies.Statement.{statement}
 use Rattle.bodies.proofs.put_bodies.Tie as tie

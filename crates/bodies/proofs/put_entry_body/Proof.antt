@@ -8,7 +8,7 @@ use denote.Ref.{now}
 use Rattle.bpf.proofs.Laws.{put-next}
 use Rattle.rule.specs.At.{rulesHere}
 use Rattle.rule.proofs.Laws.{put-none, past-none}
-use Rattle.search.specs.Search.{ruleBodies, entryBody}
+use Rattle.definitions.specs.Emitted.{ruleBodies, entryBody}
 use Rattle.bodies.proofs.Laws.{entry-body-none, entry-body-some}
 use Rattle.bodies.proofs.put_entry_body.Statement.{statement}
 use Rattle.bodies.proofs.put_entry_body.Tie as tie

@@ -9,7 +9,7 @@ use Rattle.bpf.specs.Place.{Writing}
 use Rattle.bpf.proofs.Laws.{write-begin, write-turn, write-room, write-end}
 use Rattle.rule.specs.At.{conditionsHere, rulesHere, rulesPast}
 use Rattle.rule.proofs.Laws.{past-more, past-none, rule-inside}
-use Rattle.search.specs.Search.{ruleBody, ruleBodies}
+use Rattle.definitions.specs.Emitted.{ruleBody, ruleBodies}
 use Rattle.bodies.proofs.Laws.{rule-bodies-more, rule-bodies-none}
 use Rattle.bodies.proofs.put_rule_bodies.Statement.{statement}
 use Rattle.bodies.proofs.put_rule_bodies.Tie as tie
