@@ -78,7 +78,9 @@ impl<'a> Reader<'a> {
 // one would write by hand
 fn filter_from(bytes: &[u8]) -> Option<SeccompFilter> {
     let mut left = Reader(bytes);
-    let set = RuleSet { architecture: left.word()?, mismatch: left.word()?, on_match: left.word()?, entries: vec![] };
+    // no set here is for native numbers only, which seccompiler does not have
+    let (architecture, native_only) = (left.word()?, false);
+    let set = RuleSet { architecture, native_only, mismatch: left.word()?, on_match: left.word()?, entries: vec![] };
     let mut entries = vec![];
     for _ in 0..left.word()? {
         let number = left.word()?;

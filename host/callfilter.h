@@ -16,7 +16,17 @@ extern "C" {
 
 /* ---- the numbers that stand for names */
 
-enum { CALLFILTER_X86_64 = 1, CALLFILTER_AARCH64 = 2, CALLFILTER_RISCV64 = 3 };
+enum {
+    CALLFILTER_X86_64 = 1,
+    CALLFILTER_AARCH64 = 2,
+    CALLFILTER_RISCV64 = 3,
+    /* Added to one of these: native numbers only. On x86_64 a filter is also asked about the calls of a second table (x32), under the same
+     * architecture word, with bit 30 set in their numbers. With this flag each number with that bit kills the process, whatever is listed,
+     * but for 0xffffffff, which stands for a call that a tracer has cancelled. seccompiler does not have it: the filter is its filter with
+     * three instructions more (the guard), four where nothing is listed; a run that gets past the guard takes at most two of them. The
+     * other architectures have no second table: there it changes nothing. */
+    CALLFILTER_NATIVE_ONLY = 0x100
+};
 
 enum { CALLFILTER_DWORD = 4, CALLFILTER_QWORD = 8 };
 
@@ -79,7 +89,7 @@ typedef struct {
 callfilter_answer callfilter_compile(const uint8_t *set, size_t set_len, uint8_t *out, size_t out_len);
 
 /* The same, but for the bytes: a binary search, never longer than that filter, so that every set is compiled that callfilter_compile takes.
- * With at most 2^k spans (a number with rules, or a row without) a run takes at most k + max(6, k) + 1 instructions, and the rules' more. */
+ * With up to 2^k spans (a number with rules, or a row without) a run takes at most k + max(6, k) + 1 instructions, and guard's and rules'. */
 callfilter_answer callfilter_compile_search(const uint8_t *set, size_t set_len, uint8_t *out, size_t out_len);
 
 /* ---- writing a rule set part by part */
@@ -130,6 +140,7 @@ typedef struct {
     uint32_t code, at, entries, rules, conditions;
 } callfilter_cursor;
 
+/* architecture: with CALLFILTER_NATIVE_ONLY added where the set has it */
 typedef struct {
     callfilter_cursor next;
     uint32_t architecture, mismatch, on_match;

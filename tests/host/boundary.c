@@ -52,6 +52,8 @@ static void written(void) {
     memset(buffer, 0xa5, ROOM);
     callfilter_writer writer = callfilter_start(buffer, ROOM, 4, CALLFILTER_ERRNO(1), CALLFILTER_ALLOW);
     CHECK(writer.code == CALLFILTER_PART_NOT_GOOD && untouched_from(0));
+    writer = callfilter_start(buffer, ROOM, CALLFILTER_NATIVE_ONLY, CALLFILTER_ERRNO(1), CALLFILTER_ALLOW);
+    CHECK(writer.code == CALLFILTER_PART_NOT_GOOD && untouched_from(0));
     writer = callfilter_start(buffer, 15, CALLFILTER_X86_64, CALLFILTER_ERRNO(1), CALLFILTER_ALLOW);
     CHECK(writer.code == CALLFILTER_NO_ROOM && untouched_from(0));
 
@@ -310,6 +312,81 @@ static void asked(void) {
     CHECK(callfilter_decide(WORKED_SET, sizeof WORKED_SET, call, sizeof call - 1).code == CALLFILTER_NOT_A_CALL);
 }
 
+/* a set for native numbers only that lists some numbers, two of which no call can reach */
+static callfilter_writer native_calls(uint32_t architecture) {
+    static const uint32_t listed[] = {1, 0x40000001, 0x80000001, 0xfffffffe, 0xffffffff};
+    size_t room = sizeof long_set;
+    callfilter_writer writer = callfilter_start(long_set, room, architecture, CALLFILTER_ALLOW, CALLFILTER_ERRNO(1));
+    for (size_t at = 0; at < sizeof listed / sizeof listed[0]; at++) writer = callfilter_list(long_set, room, writer, listed[at]);
+    CHECK(writer.code == CALLFILTER_WRITTEN && callfilter_read_head(long_set, writer.end).architecture == architecture);
+    return writer;
+}
+
+static void native_by(form compile, uint32_t architecture) {
+    static const struct {
+        uint32_t number, action, action_of_native;
+    } calls[] = {
+        {1, CALLFILTER_ERRNO(1), CALLFILTER_ERRNO(1)},
+        {0x3fffffff, CALLFILTER_ALLOW, CALLFILTER_ALLOW},
+        {0x40000000, CALLFILTER_ALLOW, CALLFILTER_KILL_PROCESS},
+        {0x40000001, CALLFILTER_ERRNO(1), CALLFILTER_KILL_PROCESS},
+        {0x7fffffff, CALLFILTER_ALLOW, CALLFILTER_KILL_PROCESS},
+        {0x80000000, CALLFILTER_ALLOW, CALLFILTER_ALLOW},
+        {0x80000001, CALLFILTER_ERRNO(1), CALLFILTER_ERRNO(1)},
+        {0xbfffffff, CALLFILTER_ALLOW, CALLFILTER_ALLOW},
+        {0xc0000000, CALLFILTER_ALLOW, CALLFILTER_KILL_PROCESS},
+        {0xfffffffe, CALLFILTER_ERRNO(1), CALLFILTER_KILL_PROCESS},
+        {0xffffffff, CALLFILTER_ERRNO(1), CALLFILTER_ERRNO(1)},
+    };
+    bool guarded = architecture == (CALLFILTER_X86_64 | CALLFILTER_NATIVE_ONLY);
+    callfilter_writer writer = native_calls(architecture & ~(uint32_t)CALLFILTER_NATIVE_ONLY);
+    uint32_t count = compile(long_set, writer.end, filter, sizeof filter).count + (guarded ? 3 : 0);
+    writer = native_calls(architecture);
+    size_t size = 8 * (size_t)count;
+    CHECK(answered(compile(long_set, writer.end, filter, size - 1), CALLFILTER_BUFFER_TOO_SHORT, count, NOWHERE, NOWHERE, NOWHERE));
+    CHECK(answered(compile(long_set, writer.end, filter, size), CALLFILTER_COMPILED, count, NOWHERE, NOWHERE, NOWHERE));
+    CHECK(callfilter_accepts(filter, size));
+    static const uint32_t words[] = {0, 0xc000003e, 0xc00000b7, 0xc00000f3};
+    for (size_t at = 0; at < sizeof calls / sizeof calls[0]; at++) {
+        uint8_t call[CALLFILTER_CALL_SIZE] = {0};
+        put(call, calls[at].number, 4);
+        put(call + 4, words[architecture & 3], 4);
+        uint32_t action = guarded ? calls[at].action_of_native : calls[at].action;
+        CHECK(callfilter_run(filter, size, call, sizeof call).action == action);
+        callfilter_outcome means = callfilter_decide(long_set, writer.end, call, sizeof call);
+        CHECK(means.code == CALLFILTER_RETURNED && means.action == action);
+    }
+}
+
+static void native(void) {
+    static const uint32_t architectures[] = {CALLFILTER_X86_64, CALLFILTER_AARCH64, CALLFILTER_RISCV64};
+    for (size_t at = 0; at < 6; at++) {
+        uint32_t architecture = architectures[at / 2] | (at % 2 ? CALLFILTER_NATIVE_ONLY : 0);
+        native_by(callfilter_compile, architecture);
+        native_by(callfilter_compile_search, architecture);
+    }
+    /* nothing listed: the number is loaded all the same */
+    callfilter_writer writer =
+        callfilter_start(long_set, sizeof long_set, CALLFILTER_X86_64 | CALLFILTER_NATIVE_ONLY, CALLFILTER_TRAP, CALLFILTER_ALLOW);
+    CHECK(answered(callfilter_compile(long_set, writer.end, filter, 64), CALLFILTER_COMPILED, 8, NOWHERE, NOWHERE, NOWHERE));
+    CHECK(answered(callfilter_compile_search(long_set, writer.end, filter, 63), CALLFILTER_BUFFER_TOO_SHORT, 8, NOWHERE, NOWHERE, NOWHERE));
+    /* the guard counts, and another entry is the first that is too much */
+    writer = plain_calls(818);
+    long_set[1] = CALLFILTER_NATIVE_ONLY >> 8;
+    callfilter_answer answer = callfilter_compile(long_set, writer.end, filter, sizeof filter);
+    CHECK(answered(answer, CALLFILTER_TOO_MANY_INSTRUCTIONS, 4098, 817, NOWHERE, NOWHERE));
+    long_set[0] = CALLFILTER_AARCH64;
+    CHECK(answered(callfilter_compile(long_set, writer.end, filter, sizeof filter), CALLFILTER_COMPILED, 4095, NOWHERE, NOWHERE, NOWHERE));
+    /* next to the flag */
+    static const uint8_t heads[][4] = {{0, 1, 0, 0}, {4, 1, 0, 0}, {1, 2, 0, 0}, {1, 3, 0, 0}, {1, 0, 0, 1}, {1, 1, 0, 1}};
+    for (size_t at = 0; at < sizeof heads / sizeof heads[0]; at++) {
+        memcpy(long_set, heads[at], 4);
+        answer = callfilter_compile(long_set, writer.end, filter, sizeof filter);
+        CHECK(answered(answer, CALLFILTER_NOT_OF_THE_FORMAT, 0, NOWHERE, NOWHERE, NOWHERE));
+        CHECK(callfilter_read_head(long_set, writer.end).next.code == CALLFILTER_NOT_THERE);
+    }
+}
+
 int main(void) {
     written();
     read_back();
@@ -317,6 +394,7 @@ int main(void) {
     compiled(callfilter_compile_search, 27);
     places();
     limits();
+    native();
     numbers();
     asked();
     printf("%d passed, %d failed\n", passed, failed);

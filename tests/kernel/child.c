@@ -161,7 +161,7 @@ static void ask_on(batch *asked) {
     }
     if (WTERMSIG(status) != SIGSYS) fail("a child process ended by another signal than the kernel's for a filter");
     q->seen[q->made++] = DIED;
-    if (++q->deaths == MOST_DEATHS) q->calls = q->made;
+    if (++q->deaths == MOST_DEATHS && !q->about_deaths) q->calls = q->made;
     if (q->made == q->calls) asked->at++;
 }
 

@@ -18,7 +18,7 @@ enum {
     LONGEST = 8192,      // instructions of a filter here; the kernel takes 4,096
     MOST_CALLS = 64,     // for one filter
     BATCH = 32,          // filters that the kernel is asked about at a time
-    MOST_DEATHS = 3,     // for one filter: each costs a process, so the calls that are left are not made
+    MOST_DEATHS = 3,     // for one filter: each costs a process, so the calls that are left are not made, unless it is about deaths
     GUARD_ERRNO = 4000,  // what a call gives that the filter under test would let through
     MOST_ERRNO = 4095,
     DIED = INT32_MIN,    // the process was killed
@@ -29,6 +29,7 @@ typedef struct {
     uint32_t length, calls;
     instruction filter[LONGEST];
     call call[MOST_CALLS];
+    bool about_deaths;         // all calls are made, whatever they cost
     int32_t taken;             // what seccomp(2) returned: 0, or an errno below 0
     uint32_t made, deaths;     // calls that were made, and how many of them killed
     int32_t seen[MOST_CALLS];  // what each gave: 0, an errno below 0, or DIED
@@ -93,10 +94,11 @@ void show_difference(const question *q, int at, judge by, const char *name);
 _Noreturn void fail(const char *why);                           // the whole test, where it cannot be made
 bool ended_with(uint64_t passed, uint64_t failed);              // prints the last line
 
-// ---- programs.c, sets.c and supervisor.c: the parts, each ending with its line 'N passed, M failed'
+// ---- programs.c, sets.c, supervisor.c and native.c: the parts, each ending with its line 'N passed, M failed'
 
 bool compare_programs(batch *asked, uint64_t seed, uint64_t first, uint64_t count);
 bool compare_sets(batch *asked, uint64_t seed, uint64_t first);
 bool compare_supervisor(void);
+bool compare_native(batch *asked);
 
 #endif

@@ -3,6 +3,7 @@
 //     compare programs SEED FIRST COUNT    random filters and calls, for callfilter_accepts and callfilter_run
 //     compare sets SEED FIRST              rule sets and calls from standard input, for both forms of compiling and callfilter_decide
 //     compare supervisor                   sets that hand calls to a supervisor
+//     compare native                       sets for native numbers only, and numbers around the second table of x86_64
 
 #include "kernel.h"
 #include <stdio.h>
@@ -15,5 +16,6 @@ int main(int count, char **words) {
     if (count == 5 && strcmp(words[1], "programs") == 0) return !compare_programs(kernel_ready(), seed, first, strtoull(words[4], NULL, 10));
     if (count == 4 && strcmp(words[1], "sets") == 0) return !compare_sets(kernel_ready(), seed, first);
     if (count == 2 && strcmp(words[1], "supervisor") == 0) return !compare_supervisor();
-    fail("usage: compare programs SEED FIRST COUNT, compare sets SEED FIRST, or compare supervisor");
+    if (count == 2 && strcmp(words[1], "native") == 0) return !compare_native(kernel_ready());
+    fail("usage: compare programs SEED FIRST COUNT, compare sets SEED FIRST, compare supervisor, or compare native");
 }

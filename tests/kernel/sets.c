@@ -35,14 +35,21 @@ static const rule_set *set_of(const question *q) { return &sets[(q - first_asked
     ROW(ACTIONS_SWAPPED, "listed: a match gives the mismatch action") \
     ROW(NUMBER_CUT, "listed: of a call's number 16 bits are compared") \
     ROW(ARCHITECTURES_SWAPPED, "architectureWord: the words are swapped") \
-    ROW(ARCHITECTURE_IGNORED, "meaning: a call's architecture is not compared")
+    ROW(ARCHITECTURE_IGNORED, "meaning: a call's architecture is not compared") \
+    ROW(NATIVE_IGNORED, "meaning: a second table is served, whatever the set says") \
+    ROW(NATIVE_ALWAYS, "meaning: a second table is never served") \
+    ROW(SECOND_TABLE_LISTED, "meaning: of a second table the listed numbers are served") \
+    ROW(SECOND_TABLE_ABOVE, "inSecondTable: every number from 2^30 on is of the table") \
+    ROW(SECOND_TABLE_BELOW, "inSecondTable: no number from 2^31 on is of the table") \
+    ROW(CANCELLED_KILLED, "inSecondTable: the number of a cancelled call is of the table")
 
 #define ROW_NAME(name, text) name,
 enum { LIST(ROW_NAME) MEANINGS };
 #define ROW_TEXT(name, text) text,
 static const char *const meaning_names[MEANINGS] = {LIST(ROW_TEXT)};
 
-enum { MISMATCH = 4, MATCH = 8, ENTRIES = 12, HEAD = 16, VALUE = 8, MASK = 16, CONDITION = 24 };  // places, and the sizes of head and condition
+enum { FLAG = 1, MISMATCH = 4, MATCH = 8, ENTRIES = 12, HEAD = 16, VALUE = 8, MASK = 16, CONDITION = 24 };  // places, and sizes
+enum { SECOND_TABLE = 0x40000000 };
 
 static uint32_t word_at(const uint8_t *at) {
     uint32_t word;
@@ -71,6 +78,7 @@ static void change_set(uint8_t *set, unsigned wrong) {
     uint32_t mismatch = word_at(set + MISMATCH), match = word_at(set + MATCH);
     if (wrong == ACTIONS_SWAPPED) memcpy(set + MISMATCH, &match, 4), memcpy(set + MATCH, &mismatch, 4);
     if (wrong == ARCHITECTURES_SWAPPED) *set = *set == CALLFILTER_X86_64 ? CALLFILTER_RISCV64 : CALLFILTER_X86_64;
+    if (wrong == NATIVE_IGNORED || wrong == NATIVE_ALWAYS) set[FLAG] = wrong == NATIVE_ALWAYS;
     uint8_t *at = set + HEAD;
     for (uint32_t entries = word_at(set + ENTRIES); entries > 0; entries--) {
         uint32_t rules = word_at(at + 4);
@@ -79,6 +87,29 @@ static void change_set(uint8_t *set, unsigned wrong) {
             for (at += 4; conditions > 0; conditions--, at += CONDITION) change_condition(at, wrong);
         }
     }
+}
+
+static bool is_guarded(const rule_set *set) { return word_at(set->bytes) == (CALLFILTER_X86_64 | CALLFILTER_NATIVE_ONLY); }
+
+static bool is_listed(const rule_set *set, uint32_t number) {
+    callfilter_cursor cursor = callfilter_read_head(set->bytes, set->size).next;
+    while (cursor.code == CALLFILTER_READ) {
+        callfilter_listed entry = callfilter_next_entry(set->bytes, set->size, cursor);
+        if (entry.next.code == CALLFILTER_READ && entry.number == number) return true;
+        for (cursor = entry.next; cursor.code == CALLFILTER_READ && (cursor.rules || cursor.conditions);)
+            cursor = cursor.conditions ? callfilter_next_condition(set->bytes, set->size, cursor).next
+                                       : callfilter_next_rule(set->bytes, set->size, cursor);
+    }
+    return false;
+}
+
+// Where a second table is not served: a number of it, or of none, in the place of the call's.
+static void change_number(rule_set *set, call *made, unsigned wrong) {
+    uint32_t number = made->nr;
+    if (wrong == SECOND_TABLE_LISTED && is_listed(set, number)) set->bytes[FLAG] = 0;
+    if (wrong == SECOND_TABLE_ABOVE && number > SECOND_TABLE && number != UINT32_MAX) made->nr = SECOND_TABLE;
+    if (wrong == SECOND_TABLE_BELOW && number >> 31) set->bytes[FLAG] = 0;
+    if (wrong == CANCELLED_KILLED && number == UINT32_MAX) made->nr = SECOND_TABLE;
 }
 
 // ---- what is decided
@@ -102,6 +133,7 @@ static callfilter_outcome decided(const question *q, const call *made, unsigned 
         memcpy(changed.bytes, set->bytes, set->size);
         changed.size = set->size;
         change_set(changed.bytes, wrong);
+        if (is_guarded(set)) change_number(&changed, &changed_call, wrong);
         set = &changed;
         if (wrong == NUMBER_CUT) changed_call.nr &= 0xffff;
         if (wrong == ARCHITECTURE_IGNORED) changed_call.arch = architecture_word(*set->bytes);
@@ -149,6 +181,7 @@ static bool read_questions(question q[FORMS], rule_set *set, bool old_calls) {
     read_whole(set->bytes, set->size);
     read_calls(q, head[1], old_calls);
     for (unsigned form = 1; form < FORMS; form++) q[form].calls = q->calls, memcpy(q[form].call, q->call, sizeof q->call);
+    for (unsigned form = 0; form < FORMS; form++) q[form].about_deaths = is_guarded(set);
     compile(q, set);
     return true;
 }
@@ -156,7 +189,7 @@ static bool read_questions(question q[FORMS], rule_set *set, bool old_calls) {
 // ---- the comparison
 
 typedef struct {
-    uint64_t sets, passed, failed;
+    uint64_t sets, guarded, passed, failed;
     uint64_t taken[FORMS], instructions[FORMS], calls[FORMS], killed[FORMS], matched[FORMS];
     uint64_t far;  // searches that jump to a number's rules, or among their comparisons, over more than a comparison can
     int64_t noticed[MEANINGS];
@@ -197,6 +230,7 @@ static void judge_form(tally *t, const question *q, unsigned form, uint64_t seed
 static void judge_set(tally *t, const question q[FORMS], uint64_t seed, uint64_t index) {
     for (unsigned form = 0; form < FORMS; form++) judge_form(t, &q[form], form, seed, index);
     t->far += searches_far(&q[SEARCH_FORM]);
+    t->guarded += is_guarded(set_of(q));
     t->sets++;
 }
 
@@ -221,6 +255,7 @@ static void judge_all(tally *t) {
             printf("FAILED fewer than %u calls for a set\n", CALLS_AT_LEAST);
         }
     }
+    printf("%" PRIu64 " sets for native numbers only, on an architecture with a second table\n", t->guarded);
     printf("%s%" PRIu64 " searches jump over more than %u instructions; %" PRIu64 " processes\n", t->far ? "" : "FAILED ", t->far, FAR,
            processes);
     t->failed += t->far == 0;

@@ -8,12 +8,16 @@ import struct
 import sys
 
 sys.path.insert(0, str(pathlib.Path(__file__).resolve().parent.parent / "vectors"))
-from draw import Draw  # noqa: E402
-from model import AARCH64, EQ, ERRNO, GE, GT, LE, LT, MASKED_EQ, RISCV64, TOO_MANY, X86_64, encode, length  # noqa: E402
+from draw import BORDERS, Draw  # noqa: E402
+from model import (  # noqa: E402
+    AARCH64, EQ, ERRNO, GE, GT, LE, LT, MASKED_EQ, RISCV64, SECOND_TABLE, TOO_MANY, X86_64, encode, is_guarded, length)
 
 CALLS = 64
 SAMPLES = 24
 TRIES = 24
+# of so many sets one is for native numbers only, and of so many calls for it one has a number that this is about
+NATIVE_SETS = 5
+NATIVE_CALLS = 4
 ALL = 2 ** 64 - 1
 # the only two that a process of this machine can make: its own, and 32-bit ones
 NATIVE, OLD = 0xc000003e, 0x40000003
@@ -89,7 +93,12 @@ def samples(draw, entries):
     return chosen or [(draw.below(400), [], solved(draw, []))]
 
 
-def call(draw, chosen):
+def sometimes_native(flag, made):
+    flagged = flag.native(made) if flag.chance(NATIVE_SETS) else made
+    return flagged if length(flagged) < TOO_MANY else made
+
+
+def call(draw, chosen, guarded):
     number, rule, arguments = draw.of(chosen)
     if rule and not draw.chance(3):
         condition = draw.of(rule)
@@ -97,6 +106,8 @@ def call(draw, chosen):
         arguments[condition[0]] = near(draw, condition)
     if draw.chance(6):
         number = draw.of((number + 1, number - 1, number ^ 1 << draw.below(32), draw.bits())) % 2 ** 32
+    if guarded and draw.chance(NATIVE_CALLS):
+        number = draw.of((number ^ SECOND_TABLE, draw.of(BORDERS)))
     architecture = NATIVE
     if draw.chance(200):
         architecture, arguments = OLD, [argument % 2 ** 32 for argument in arguments]
@@ -106,9 +117,9 @@ def call(draw, chosen):
 def frame(seed, index):
     # every index has a sequence of its own, so that one can be drawn again without the others
     draw = Draw(Draw((seed << 32) + index & ALL).bits())
-    made = rule_set(draw)
-    given, chosen = encode(made), samples(draw, made[3])
-    return struct.pack("<II", len(given), CALLS) + given + b"".join(call(draw, chosen) for _ in range(CALLS))
+    made = sometimes_native(Draw(draw.state + 1), rule_set(draw))
+    given, chosen, guarded = encode(made), samples(draw, made[3]), is_guarded(made[0])
+    return struct.pack("<II", len(given), CALLS) + given + b"".join(call(draw, chosen, guarded) for _ in range(CALLS))
 
 
 def main():

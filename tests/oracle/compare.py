@@ -1,8 +1,9 @@
 #!/usr/bin/env python3
 """Compares a compiler that speaks the oracle's frames with the real compiler of seccompiler 0.5.0: answers and bytes of systematic and of
 random rule sets, and what the filters return for calls drawn from the values in the rules. Of some sets the program also makes a search,
-which seccompiler has not: it is held to the meaning, and never longer. It also tries the listed differences on the real compiler. The last
-line is 'N passed, M failed'.
+which seccompiler has not: it is held to the meaning, and never longer. A set for native numbers only, which seccompiler does not know, is
+compiled by it without that flag: our filter has to be that one, but for the guard (and the load that it needs) on x86_64. It also tries the
+listed differences on the real compiler. The last line is 'N passed, M failed'.
 
     compare.py --other PROGRAM [--sets N] [--seed N] [--calls N]
 
@@ -18,13 +19,16 @@ import build
 
 sys.path.insert(0, str(build.ROOT / "tests" / "vectors"))
 from draw import Draw  # noqa: E402
-from model import ALLOW, EQ, ERRNO, LONGEST_SET, NOWHERE, TOO_MANY, X86_64, decode, encode, length  # noqa: E402
+from model import (  # noqa: E402
+    ALLOW, EQ, ERRNO, LONGEST_SET, NATIVE_ONLY, NOWHERE, TOO_MANY, X86_64, decode, encode, is_guarded, length, native_only)
 
 BATCH = 500
 PLENTY = 65536
 SHOWN = 5
 # of so many sets one is also compiled into a search
 SEARCHED = 3
+# of so many random sets one is for native numbers only
+NATIVE = 3
 BY_LENGTH = (0, 6, 7)
 
 
@@ -32,7 +36,8 @@ def heads():
     """Every short start, every value of every byte of the head, and all pairings of words next to known ones."""
     plain = encode((X86_64, ERRNO + 1, ALLOW, []))
     listed = encode((X86_64, ERRNO + 1, ALLOW, [(0, [])]))
-    for given in (plain, listed):
+    native = encode((native_only(X86_64), ERRNO + 1, ALLOW, [(0, [])]))
+    for given in (plain, listed, native):
         for size in range(len(given) + 1):
             yield given[:size]
         for more in range(1, 26):
@@ -40,9 +45,10 @@ def heads():
             yield given + bytes([1]) * more
     for byte in range(256):
         yield bytes([byte])
-        for place in range(16):
-            yield plain[:place] + bytes([byte]) + plain[place + 1:]
-    architectures = (0, 1, 2, 3, 4, 0x101, 0x1000001, 2 ** 32 - 1)
+        for given in (plain, native):
+            for place in range(16):
+                yield given[:place] + bytes([byte]) + given[place + 1:]
+    architectures = (0, 1, 2, 3, 4, 0x100, 0x101, 0x102, 0x103, 0x104, 0x201, 0x1000001, 2 ** 32 - 1)
     words = (0, 1, 0x30000, 0x30001, 0x50000, 0x5ffff, 0x60000, 0x7fc00000, 0x7fc00001, 0x7ff00001, 0x7ffc0000, 0x7ffc8000, 0x7fff0000, 0x80000000, 0x80000001)
     tails = (bytes(4), bytes(4) + bytes(8), struct.pack("<I", 1) + bytes(8), struct.pack("<I", 2 ** 32 - 1) + bytes(8))
     for architecture in architectures:
@@ -85,8 +91,12 @@ def longest():
 
 
 def drawn(seed, count):
-    """Random frames (set, room)."""
-    draw = Draw(seed)
+    """Random frames (set, room). The flag is drawn apart, so that the other sets are the same whether or not there is one."""
+    draw, flag = Draw(seed), Draw(seed + 2 ** 63)
+
+    def sometimes_native(made):
+        return flag.native(made) if flag.chance(NATIVE) else made
+
     for _ in range(count):
         kind = draw.below(20)
         if kind < 8:
@@ -102,12 +112,13 @@ def drawn(seed, count):
         else:
             made = None
         if made is None:
-            source = draw.of((draw.small, draw.small, draw.small, draw.long_rules, draw.many_numbers))()
+            source = sometimes_native(draw.of((draw.small, draw.small, draw.small, draw.long_rules, draw.many_numbers))())
             if draw.chance(2):
                 yield encode(draw.refused(source)), draw.of((PLENTY, 0))
             else:
                 yield draw.damaged(encode(source)), PLENTY
         else:
+            made = sometimes_native(made)
             size = 8 * length(made)
             yield encode(made), draw.of((PLENTY,) * 8 + (size, size + 5, max(0, size - 1), draw.below(size), 0))
 
@@ -116,8 +127,16 @@ class Tally:
     def __init__(self):
         self.passed = self.calls = self.matched = self.raised = 0
         self.searches = self.searched = self.listed = 0
+        self.natives, self.guarded = {}, {}
         self.failures = []
         self.codes = {}
+
+    def count_native(self, given, code):
+        """How often each answer was one to a set with the flag, on an architecture with a second table or without."""
+        head = int.from_bytes(given[:4], "little")
+        if head & NATIVE_ONLY and code != 1:
+            counts = self.guarded if is_guarded(head) else self.natives
+            counts[code] = counts.get(code, 0) + 1
 
 
 def answers_of(other, frames, *words):
@@ -205,6 +224,7 @@ def compare(frames, oracle, other, judge, calls, seed, tally):
     for place, frame in enumerate(frames):
         wanted, got = expected[place], given[place]
         tally.codes[wanted[0]] = tally.codes.get(wanted[0], 0) + 1
+        tally.count_native(frame[0], wanted[0])
         if wanted == got and place not in verdicts:
             tally.passed += 1
             continue
@@ -277,8 +297,11 @@ def main():
     part("at 1 MiB", ((given, PLENTY) for given in longest()))
     part("random", drawn(options.seed, options.sets))
 
-    codes = ", ".join(f"{code}: {tally.codes[code]}" for code in sorted(tally.codes))
-    print(f"answers ({codes}); {tally.calls} calls run, {tally.matched} of them matching")
+    def in_words(codes):
+        return ", ".join(f"{code}: {codes[code]}" for code in sorted(codes))
+
+    print(f"answers ({in_words(tally.codes)}); {tally.calls} calls run, {tally.matched} of them matching")
+    print(f"for native numbers only, on x86_64 ({in_words(tally.guarded)}), elsewhere ({in_words(tally.natives)})")
     print(f"{tally.searches} searches, of {tally.searched} instructions where lists have {tally.listed}")
     print(f"{tally.raised} filters of 4,096 instructions, which seccompiler writes only with its limit raised by one")
     show(tally.failures)

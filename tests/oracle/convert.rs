@@ -3,9 +3,9 @@
 use std::collections::BTreeMap;
 
 use crate::backend::{
-    BpfProgram, Error, SeccompAction, SeccompCmpArgLen, SeccompCmpOp, SeccompCondition, SeccompFilter, SeccompRule, TargetArch,
+    sock_filter, BpfProgram, Error, SeccompAction, SeccompCmpArgLen, SeccompCmpOp, SeccompCondition, SeccompFilter, SeccompRule, TargetArch,
 };
-use crate::format::{self, Condition, RuleSet};
+use crate::format::{self, Condition, RuleSet, CANCELLED, SECOND_TABLE};
 
 pub type Rules = BTreeMap<i64, Vec<SeccompRule>>;
 
@@ -27,6 +27,34 @@ pub fn put_right(program: &mut BpfProgram, set: &RuleSet) {
     for step in program.iter_mut().filter(|step| step.code == RETURN && step.k == stands_in(set)) {
         step.k = USER_NOTIF;
     }
+}
+
+// The flag for native numbers only is not seccompiler's: it is asked without, and what the flag asks for is put into its filter behind the
+// test of the architecture, which has three instructions, and the load of the number, which stands there unless nothing is listed.
+const BEFORE_NUMBER: usize = 3;
+const KILL_PROCESS: u32 = 0x8000_0000;
+
+fn guard_of(set: &RuleSet) -> Vec<sock_filter> {
+    let load = sock_filter { code: 0x20, jt: 0, jf: 0, k: 0 };
+    let guard = [
+        sock_filter { code: 0x45, jt: 0, jf: 2, k: SECOND_TABLE },
+        sock_filter { code: 0x15, jt: 1, jf: 0, k: CANCELLED },
+        sock_filter { code: RETURN, jt: 0, jf: 0, k: KILL_PROCESS },
+    ];
+    match (set.guarded(), set.entries.is_empty()) {
+        (false, _) => vec![],
+        (true, false) => guard.into(),
+        (true, true) => [&[load][..], &guard].concat(),
+    }
+}
+
+pub fn guard_length(set: &RuleSet) -> usize {
+    guard_of(set).len()
+}
+
+pub fn put_guard(program: &mut BpfProgram, set: &RuleSet) {
+    let place = BEFORE_NUMBER + usize::from(!set.entries.is_empty());
+    program.splice(place..place, guard_of(set));
 }
 
 fn action(word: u32) -> SeccompAction {

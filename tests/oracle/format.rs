@@ -20,6 +20,7 @@ pub struct Entry {
 
 pub struct RuleSet {
     pub architecture: u32,
+    pub native_only: bool,
     pub mismatch: u32,
     pub on_match: u32,
     pub entries: Vec<Entry>,
@@ -32,6 +33,20 @@ pub const LE: u8 = 3;
 pub const LT: u8 = 4;
 pub const MASKED_EQ: u8 = 5;
 pub const NE: u8 = 6;
+
+// added to an architecture's number: native numbers only
+const NATIVE_ONLY: u32 = 0x100;
+
+// Numbers with this bit are of x86_64's second table (x32), but for that of a call which a tracer has cancelled.
+pub const SECOND_TABLE: u32 = 0x4000_0000;
+pub const CANCELLED: u32 = u32::MAX;
+
+impl RuleSet {
+    // whether numbers of a second table kill: only x86_64 has one
+    pub fn guarded(&self) -> bool {
+        self.native_only && self.architecture == 1
+    }
+}
 
 pub fn is_action(word: u32) -> bool {
     match word >> 16 {
@@ -92,7 +107,8 @@ pub fn read_set(bytes: &[u8]) -> Option<RuleSet> {
         return None;
     }
     let mut left = Bytes(bytes);
-    let architecture = left.word()?;
+    let head = left.word()?;
+    let (architecture, native_only) = (head & !NATIVE_ONLY, head & NATIVE_ONLY != 0);
     let mismatch = left.word()?;
     let on_match = left.word()?;
     let count = left.word()?;
@@ -100,7 +116,7 @@ pub fn read_set(bytes: &[u8]) -> Option<RuleSet> {
         return None;
     }
     let entries = (0..count).map(|_| left.entry()).collect::<Option<_>>()?;
-    left.0.is_empty().then_some(RuleSet { architecture, mismatch, on_match, entries })
+    left.0.is_empty().then_some(RuleSet { architecture, native_only, mismatch, on_match, entries })
 }
 
 // the next four bytes of a stream as a number; none at its end

@@ -9,7 +9,7 @@ mod format;
 
 use std::io::{self, BufReader, BufWriter, Write};
 
-use format::{next_bytes, next_word, read_set, Condition, RuleSet};
+use format::{next_bytes, next_word, read_set, Condition, RuleSet, CANCELLED, SECOND_TABLE};
 
 #[derive(Clone, Debug)]
 struct Call {
@@ -46,6 +46,9 @@ fn holds(condition: &Condition, argument: u64) -> bool {
 
 fn meaning(set: &RuleSet, call: &Call) -> u32 {
     if call.architecture != WORDS[set.architecture as usize - 1] {
+        return KILL_PROCESS;
+    }
+    if set.guarded() && call.number & SECOND_TABLE != 0 && call.number != CANCELLED {
         return KILL_PROCESS;
     }
     let Some(entry) = set.entries.iter().find(|entry| entry.number == call.number) else { return set.mismatch };
@@ -98,20 +101,21 @@ fn run(steps: &[Step], call: &Call) -> Option<u32> {
             0x15 => at += branch(accumulator == step.constant),
             0x25 => at += branch(accumulator > step.constant),
             0x35 => at += branch(accumulator >= step.constant),
+            0x45 => at += branch(accumulator & step.constant != 0),
             0x06 => return Some(step.constant),
             _ => return None,
         }
     }
 }
 
-// the kernel's checks, for the seven codes that these filters use
+// the kernel's checks, for the eight codes that these filters use
 fn taken(steps: &[Step]) -> bool {
     let inside = |at: usize, distance: u64| at as u64 + 1 + distance < steps.len() as u64;
     let good = |(at, step): (usize, &Step)| match step.code {
         0x20 => step.constant % 4 == 0 && step.constant < 64,
         0x54 | 0x06 => true,
         0x05 => inside(at, u64::from(step.constant)),
-        0x15 | 0x25 | 0x35 => inside(at, u64::from(step.jump_true)) && inside(at, u64::from(step.jump_false)),
+        0x15 | 0x25 | 0x35 | 0x45 => inside(at, u64::from(step.jump_true)) && inside(at, u64::from(step.jump_false)),
         _ => false,
     };
     (1..=4096).contains(&steps.len()) && steps.iter().enumerate().all(good) && steps.last().is_some_and(|step| step.code == 0x06)
@@ -174,6 +178,9 @@ fn solved(rule: &[Condition], draw: &mut Draw) -> [u64; 6] {
     arguments
 }
 
+// where the second table begins and ends
+const BORDERS: [u32; 4] = [SECOND_TABLE, 2 * SECOND_TABLE, 3 * SECOND_TABLE, CANCELLED];
+
 struct Sample<'a> {
     number: u32,
     rule: &'a [Condition],
@@ -213,6 +220,13 @@ fn call(set: &RuleSet, samples: &[Sample], draw: &mut Draw) -> Call {
         3 => made.architecture = WORDS[draw.below(3)],
         4 => made.architecture ^= 1 << draw.below(32),
         _ => (),
+    }
+    if set.native_only {
+        match draw.below(6) {
+            0 => made.number ^= SECOND_TABLE,
+            1 => made.number = BORDERS[draw.below(BORDERS.len())].wrapping_add(draw.below(3) as u32).wrapping_sub(1),
+            _ => (),
+        }
     }
     made
 }

@@ -14,7 +14,7 @@ use std::io::{self, BufReader, BufWriter, Write};
 use backend::{
     BpfProgram, Error, SeccompAction, SeccompCmpArgLen, SeccompCmpOp, SeccompCondition, SeccompFilter, SeccompRule, TargetArch,
 };
-use convert::{condition, filter_of, put_right, Rules};
+use convert::{condition, filter_of, guard_length, put_guard, put_right, Rules};
 use format::{next_bytes, next_word, read_set, Entry, RuleSet};
 
 // how often the real code was asked for each of its opinions, and how often it refused
@@ -61,10 +61,11 @@ fn place(entry: usize, rule: Option<usize>, condition: Option<usize>) -> Place {
 fn too_long_with(set: &RuleSet, rules: &Rules) -> Option<Place> {
     let taken = |last: &Entry| {
         let up_to = rules.range(..=i64::from(last.number)).map(|(number, rules)| (*number, rules.clone())).collect();
-        match BpfProgram::try_from(filter_of(set, up_to).expect("a filter that nothing is wrong with")) {
-            Err(Error::FilterTooLarge(count)) => count <= LONGEST,
-            program => program.is_ok(),
-        }
+        let count = match BpfProgram::try_from(filter_of(set, up_to).expect("a filter that nothing is wrong with")) {
+            Err(Error::FilterTooLarge(count)) => count,
+            program => program.expect("nothing else is wrong with it").len(),
+        };
+        count + guard_length(set) <= LONGEST
     };
     let entry = set.entries.partition_point(taken);
     (entry < set.entries.len()).then(|| place(entry, None, None))
@@ -144,8 +145,11 @@ fn answer(bytes: &[u8], room: u32, opinions: &mut Opinions) -> Answer {
         Ok(mut program) => {
             put_right(&mut program, &set);
             opinions.ask(LENGTH, program.len() >= REFUSED_FROM, false, bytes);
+            put_guard(&mut program, &set);
             let count = program.len();
-            if (room as usize) < 8 * count {
+            if count > LONGEST {
+                refused(6, count, too_long_with(&set, &rules))
+            } else if (room as usize) < 8 * count {
                 refused(7, count, None)
             } else if wide.is_some() {
                 refused(8, 0, wide)
@@ -155,7 +159,7 @@ fn answer(bytes: &[u8], room: u32, opinions: &mut Opinions) -> Answer {
         }
         Err(Error::FilterTooLarge(count)) => {
             opinions.ask(LENGTH, count >= REFUSED_FROM, true, bytes);
-            refused(6, count, too_long_with(&set, &rules))
+            refused(6, count + guard_length(&set), too_long_with(&set, &rules))
         }
         Err(other) => panic!("an error that compiling does not have: {other:?}"),
     }
@@ -181,6 +185,11 @@ fn differences() -> bool {
     let errno = |low, high| {
         SeccompFilter::new(Rules::new(), SeccompAction::Errno(low), SeccompAction::Errno(high), TargetArch::x86_64)
     };
+    // of a filter for one number, the numbers that it is compared with
+    let compared_with = |number: i64| {
+        let program = compile(listed(number)).expect("a short filter");
+        program.iter().skip(3).filter(|step| step.code & 7 == 5 && step.code != 5).map(|step| (step.code, step.k)).collect::<Vec<_>>()
+    };
     let twice: Rules = [(0, vec![one(1)]), (0, vec![])].into_iter().collect();
 
     let tries = [
@@ -195,6 +204,7 @@ fn differences() -> bool {
         ("equal actions are refused", errno(7, 7) == Err(Error::IdenticalActions)),
         ("a rule without conditions is refused when it is made", SeccompRule::new(vec![]) == Err(Error::EmptyRule)),
         ("a number listed twice keeps the last", compile(twice) == compile(listed(0))),
+        ("a number of x32 is compared like any other, and with nothing else", compared_with(1 << 30) == [(0x15, 1 << 30)]),
         ("an unknown architecture name is an error", TargetArch::try_from("mips") == Err(Error::InvalidTargetArch("mips".into()))),
         ("architecture names are compared without case", TargetArch::try_from("AArch64") == Ok(TargetArch::aarch64)),
     ];

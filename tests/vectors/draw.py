@@ -2,11 +2,16 @@
 unrelated conditions never does. The generator is our own, so that a seed gives the same sets under every version of Python."""
 import struct
 
-from model import ACTIONS, ARCHITECTURES, EQ, ERRNO, GE, GT, LE, LT, MASKED_EQ, TRACE, length, rule_length
+from model import (
+    ACTIONS, ARCHITECTURES, CANCELLED, EQ, ERRNO, GE, GT, LE, LT, MASKED_EQ, SECOND_TABLE, TRACE, X86_64, length, native_only, rule_length)
 
 EDGES = sorted({
     value for around in (0, 2 ** 31, 2 ** 32, 2 ** 63, 2 ** 64 - 1) for value in (around - 1, around, around + 1)
     if 0 <= value < 2 ** 64})
+# call numbers around each place where the second table of x86_64 begins or ends
+BORDERS = sorted({
+    number + step for number in (SECOND_TABLE, 2 * SECOND_TABLE, 3 * SECOND_TABLE, CANCELLED) for step in (-1, 0, 1)
+    if number + step < 2 ** 32})
 
 
 class Draw:
@@ -152,6 +157,18 @@ class Draw:
         made = (*head, entries)
         assert length(made) == wanted
         return made
+
+    def native(self, rule_set):
+        """A copy with the flag for native numbers only, mostly of x86_64, with up to three numbers moved into the second table or next to
+        it. Its filter is as long as it was, but for the guard."""
+        architecture, mismatch, match, entries = rule_set
+        moved = dict(entries)
+        for _ in range(self.below(4) if moved else 0):
+            old = self.of(sorted(moved))
+            new = self.of((old ^ SECOND_TABLE, self.of(BORDERS)))
+            if new not in moved:
+                moved[new] = moved.pop(old)
+        return native_only(architecture if self.chance(3) else X86_64), mismatch, match, sorted(moved.items())
 
     def refused(self, rule_set):
         """A copy that is still of the format, with one to four reasons to refuse it, anywhere in it."""

@@ -13,10 +13,10 @@ import pathlib
 import struct
 import sys
 
-from draw import EDGES, Draw
+from draw import BORDERS, EDGES, Draw
 from model import (
-    AARCH64, ACTIONS, ALLOW, ARCHITECTURES, EQ, ERRNO, GE, GT, KILL_PROCESS, LE, LOG, LT, MASKED_EQ, NE, NOWHERE, OPERATORS, TRACE, TRAP,
-    WIDTHS, X86_64, answer, decode, distances, encode, helper_sets, length, rule_length, size_of)
+    AARCH64, ACTIONS, ALLOW, ARCHITECTURES, EQ, ERRNO, GE, GT, KILL_PROCESS, LE, LOG, LT, MASKED_EQ, NE, NOWHERE, OPERATORS, SECOND_TABLE,
+    TRACE, TRAP, WIDTHS, X86_64, answer, decode, distances, encode, helper_sets, length, native_only, rule_length, size_of)
 
 ROOT = pathlib.Path(__file__).resolve().parent.parent.parent
 STORED = ROOT / "crates" / "replay" / "stdin"
@@ -26,7 +26,7 @@ import build  # noqa: E402
 
 LONGEST_STORED_SET = 65536
 LONGEST_FILTER = 32768
-LARGEST_FILE = 3_000_000
+LARGEST_FILE = 3_400_000
 # sets of up to SMALL bytes are damaged in every place, those above LARGE only here and there
 SMALL = 160
 LARGE = 1400
@@ -399,6 +399,93 @@ def drawn():
         yield encode(draw.refused(draw.small())), 4096
 
 
+# ---- kinds of sets for native numbers only
+
+
+def native(rule_set):
+    return native_only(rule_set[0]), *rule_set[1:]
+
+
+def native_heads():
+    """Next to the flag's bit, alone and with an architecture."""
+    known = (0x101, 0x102, 0x103)
+    unknown = (0x100, 0x104, 0x1ff, 0x200, 0x201, 0x203, 0x300, 0x301, 0x10001, 0x10101, 0x1000001, 0x1000101, 0x80000101, 0xfffffeff)
+    for words, code in ((known, 0), (unknown, 1)):
+        for word in words:
+            for entries in ([], [(0, [])], [(SECOND_TABLE, [[ONE]])]):
+                made = (word, TRAP, ALLOW, entries)
+                assert answer(encode(made), 1024)[0] == code
+                yield encode(made), 1024
+
+
+def native_worked():
+    for architecture in ARCHITECTURES:
+        yield fitting(native((architecture, *WORKED_SET[1:])))
+        yield fitting(native((architecture, *WORKED_SET[1:3], [])))
+    for mismatch in ACTIONS:
+        for match in ACTIONS:
+            yield fitting(native((X86_64, mismatch, match, [])))
+
+
+def native_numbers():
+    """Listed numbers of the second table and next to it: they stand in the filter, and the guard in front of them."""
+    for architecture in ARCHITECTURES:
+        yield fitting(native((architecture, *HEAD[1:], [(number, []) for number in BORDERS])))
+        yield fitting(native((architecture, *HEAD[1:], [(number, [[ONE]]) for number in BORDERS])))
+    for number in (0, *BORDERS):
+        yield fitting(native((*HEAD, [(number, [])])))
+        yield fitting(native((*HEAD, [(0, [[ONE]])] * (number != 0) + [(number, [[ONE], [ONE, ONE]])])))
+    yield fitting(native((*HEAD, [(number, []) for number in reversed(BORDERS)])))
+
+
+def native_answers():
+    """Each answer with a smallest set, and sets that two or more answers apply to."""
+    for data, room in (*answers(), *answer_pairs()):
+        # the long ones once: lengths are tried by themselves
+        if decode(data) and len(data) < LARGE:
+            yield encode(native(decode(data))), room
+            yield encode(native((AARCH64, *decode(data)[1:]))), room
+
+
+def native_lengths():
+    """At the limit, with the guard's instructions and, on another architecture, without them; behind it the entry is named."""
+    def told(made, code, count, entry):
+        assert answer(*fitting(made))[:3] == (code, count, entry)
+        return fitting(made)
+
+    guard = 3
+    yield told(native(exact_plain(4096 - guard)), 0, 4096, NOWHERE)
+    # without the flag these are compiled: the last entry is too much by the guard alone
+    for wanted in (4097, 4098, 4099):
+        yield told(native(exact_plain(wanted - guard)), 6, wanted, len(exact_plain(wanted - guard)[3]) - 1)
+    yield told(native(exact_rules(4097 - guard)), 6, 4097, 0)
+    for wanted, code, entry in ((4096, 0, NOWHERE), (4097, 6, len(exact_plain(4097)[3]) - 1)):
+        yield told(native((AARCH64, *exact_plain(wanted)[1:])), code, wanted, entry)
+    for (entries, entry), with_guard in zip(too_long(), (817, 816, 817, 0, 640, 817, 767)):
+        for made, named in ((native((*HEAD, entries)), with_guard), (native((AARCH64, *HEAD[1:], entries)), entry)):
+            frame = told(made, 6, length(made), named)
+            # where it is the same entry one of the two has to do
+            if named != with_guard or made[0] == native_only(X86_64):
+                yield frame
+
+
+def native_rooms():
+    for made in ((*HEAD, []), WORKED_SET, (*HEAD, [(SECOND_TABLE, [])])):
+        plain, size = 8 * length(made), 8 * length(native(made))
+        for room in (size, size - 1, size - 8, size + 5, plain, plain - 1, 0):
+            yield encode(native(made)), room
+    yield encode(native(exact_plain(4093))), LONGEST_FILTER - 1
+
+
+def native_drawn():
+    draw = Draw(4)
+    for _ in range(80):
+        yield fitting(draw.native(draw.small()), draw.of((0, 5)))
+    yield fitting(draw.native(draw.long_rules()))
+    for _ in range(30):
+        yield encode(draw.refused(draw.native(draw.small()))), 4096
+
+
 # ---- damaged copies
 
 
@@ -511,9 +598,11 @@ def damaged_copies(frames, used):
 def all_kinds():
     base = (worked, corner_cases, answers, answer_pairs, values, masks, indices, helpers, helper_distances, lengths, many_rules, plain_list,
             actions, unknown_words, numbers, rooms, places, drawn)
-    kinds = [(make.__name__.replace("_", "-"), list(make())) for make in base]
+    # of the kinds for native numbers only, damage to one shows what damage to the head does
+    whole = (native_heads, native_numbers, native_answers, native_lengths, native_rooms, native_drawn)
+    kinds, more = ([(make.__name__.replace("_", "-"), list(make())) for make in makers] for makers in ((*base, native_worked), whole))
     used = set()
-    return kinds + [(f"damaged-{name}", copies) for name, frames in kinds if (copies := list(damaged_copies(frames, used)))]
+    return kinds + more + [(f"damaged-{name}", copies) for name, frames in kinds if (copies := list(damaged_copies(frames, used)))]
 
 
 def check_against_oracle(frames, expected):

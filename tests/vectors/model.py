@@ -3,7 +3,7 @@
 opinion on every stored vector. Run as a program it speaks the oracle's frames.
 
 A rule set is (architecture, mismatch, match, entries), an entry (number, rules), a rule a list of conditions, and a condition
-(index, width, operator, value, mask)."""
+(index, width, operator, value, mask). The architecture is the number in the head: NATIVE_ONLY is added to it where a set has that flag."""
 import itertools
 import struct
 import sys
@@ -17,6 +17,11 @@ KILL_PROCESS, KILL_THREAD, TRAP, ERRNO, USER_NOTIF, TRACE, LOG, ALLOW = (
 ACTIONS = (KILL_PROCESS, KILL_THREAD, TRAP, ERRNO, USER_NOTIF, TRACE, LOG, ALLOW)
 ARCHITECTURE_WORDS = {X86_64: 0xc000003e, AARCH64: 0xc00000b7, RISCV64: 0xc00000f3}
 ARCHITECTURES = tuple(ARCHITECTURE_WORDS)
+# native numbers only, which asks for something on x86_64 alone: a number with the bit of its second table (x32) kills, but for the number
+# of a call that a tracer has cancelled
+NATIVE_ONLY = 0x100
+SECOND_TABLE = 0x40000000
+CANCELLED = 0xffffffff
 LONGEST_SET = 2 ** 20
 TOO_MANY = 4097
 FURTHEST = 248
@@ -49,12 +54,26 @@ def is_action(word):
     return word in ACTIONS or word & 0xffff0000 in (ERRNO, TRACE)
 
 
+def native_only(architecture):
+    """The same with the flag."""
+    return architecture | NATIVE_ONLY
+
+
+def named(architecture):
+    """The architecture without the flag."""
+    return architecture & ~NATIVE_ONLY
+
+
+def is_guarded(architecture):
+    return architecture == native_only(X86_64)
+
+
 def decode(data):
     """The rule set that bytes stand for, or None."""
     if not 16 <= len(data) <= LONGEST_SET:
         return None
     architecture, mismatch, match, entry_count = struct.unpack_from("<IIII", data, 0)
-    if architecture not in ARCHITECTURE_WORDS or not is_action(mismatch) or not is_action(match):
+    if named(architecture) not in ARCHITECTURE_WORDS or not is_action(mismatch) or not is_action(match):
         return None
     at = 16
     entries = []
@@ -89,7 +108,7 @@ def decode(data):
 
 # ---- the filter
 
-LOAD, AND, JUMP, IF_EQUAL, IF_GREATER, IF_AT_LEAST, RETURN = 0x20, 0x54, 0x05, 0x15, 0x25, 0x35, 0x06
+LOAD, AND, JUMP, IF_EQUAL, IF_GREATER, IF_AT_LEAST, IF_ANY_BIT, RETURN = 0x20, 0x54, 0x05, 0x15, 0x25, 0x35, 0x45, 0x06
 
 
 def size_of(condition):
@@ -156,9 +175,11 @@ def emitted_rule(rule, match):
 
 def emitted(rule_set):
     architecture, mismatch, match, entries = rule_set
-    steps = [(LOAD, 0, 0, 4), (IF_EQUAL, 1, 0, ARCHITECTURE_WORDS[architecture]), (RETURN, 0, 0, KILL_PROCESS)]
-    if entries:
+    steps = [(LOAD, 0, 0, 4), (IF_EQUAL, 1, 0, ARCHITECTURE_WORDS[named(architecture)]), (RETURN, 0, 0, KILL_PROCESS)]
+    if entries or is_guarded(architecture):
         steps.append((LOAD, 0, 0, 0))
+    if is_guarded(architecture):
+        steps += [(IF_ANY_BIT, 0, 2, SECOND_TABLE), (IF_EQUAL, 1, 0, CANCELLED), (RETURN, 0, 0, KILL_PROCESS)]
     for number, rules in entries:
         steps.append((IF_EQUAL, 0, 1, number))
         if not rules:
@@ -178,10 +199,15 @@ def entry_length(entry):
     return 2 + (sum(map(rule_length, rules)) if rules else 3)
 
 
+def around_entries(architecture):
+    """How many instructions stand around entries, the last return among them."""
+    return 8 if is_guarded(architecture) else 5
+
+
 def length(rule_set):
     """The number of instructions, summed without writing them."""
-    entries = rule_set[3]
-    return 5 + sum(map(entry_length, entries)) if entries else 4
+    architecture, _, _, entries = rule_set
+    return around_entries(architecture) + sum(map(entry_length, entries)) if entries or is_guarded(architecture) else 4
 
 
 def filter_bytes(rule_set):
@@ -200,7 +226,7 @@ def answer(data, room):
     rule_set = decode(data)
     if rule_set is None:
         return refused(1)
-    _, mismatch, match, entries = rule_set
+    architecture, mismatch, match, entries = rule_set
     rules = [(entry, at, rule) for entry, (_, rules) in enumerate(entries) for at, rule in enumerate(rules)]
     conditions = [(*place, at, condition) for *place, rule in rules for at, condition in enumerate(rule)]
     for entry in range(1, len(entries)):
@@ -216,9 +242,9 @@ def answer(data, room):
             return refused(5, 0, *place)
     count = length(rule_set)
     if count >= TOO_MANY:
-        # five instructions stand around the entries, the last return among them
         sums = itertools.accumulate(map(entry_length, entries))
-        return refused(6, count, next(entry for entry, size in enumerate(sums) if 5 + size >= TOO_MANY))
+        around = around_entries(architecture)
+        return refused(6, count, next(entry for entry, size in enumerate(sums) if around + size >= TOO_MANY))
     if room < 8 * count:
         return refused(7, count)
     for *place, (_, width, _, value, mask) in conditions:

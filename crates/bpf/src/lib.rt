@@ -83,6 +83,17 @@ pub fn if_equal(k: u32, t: u8, f: u8) -> Instruction
     }
 }
 
+pub fn if_any_bit(k: u32, t: u8, f: u8) -> Instruction
+    ensures { λ r. ⌜ r ≡ emitted.ifAnyBit k t f ⌝ }
+{
+    Instruction {
+        code: 0x45,
+        jt: t,
+        jf: f,
+        k: k,
+    }
+}
+
 pub fn if_greater(k: u32, t: u8, f: u8) -> Instruction
     ensures { λ r. ⌜ r ≡ emitted.ifGreater k t f ⌝ }
 {

@@ -1,6 +1,6 @@
 -- Laws of what a rule set means, from the bytes: an argument's place, and for each loop when it stops, one turn, and its end.
 use mathlib.Core.Path.{_≡_, refl}
-use mathlib.Core.Bool.{Bool, true, false, cond}
+use mathlib.Core.Bool.{Bool, true, false, cond, _&&_}
 use mathlib.Core.List.{List}
 use mathlib.Core.Option.{Option, none, some}
 use Prim.Native.Nat.{ℕ, zero, suc, _+_, _-_, _*_, _≤_, _<_}
@@ -9,7 +9,7 @@ use lib.ListN.{length}
 use borrow.Author.Tests.{eq-eqb, ne-eqb}
 use Rattle.definitions.specs.Word.{numberAt}
 use Rattle.definitions.specs.Machine.{Call, callOf}
-use Rattle.definitions.specs.RuleSet.{RuleSet, architectureWord, killProcess, argument, holds, allHold, anyHolds, matches, listed, meaning}
+use Rattle.definitions.specs.RuleSet.{RuleSet, architectureWord, inSecondTable, guarded, killProcess, argument, holds, allHold, anyHolds, matches, listed, meaning}
 use Rattle.definitions.specs.Format.{read}
 use Rattle.definitions.specs.Answer.{refusal}
 use Rattle.definitions.specs.Outcome.{decided, decidedRead, decidedOf}
@@ -17,7 +17,8 @@ use Rattle.condition.specs.Here.{conditionHere}
 use Rattle.rule.specs.At.{conditionsHere, rulesHere, rulesPast}
 use Rattle.ruleset.specs.declared.Judged.{Judged}
 use Rattle.ruleset.specs.Scan.{judged}
-use Rattle.filter.specs.At.{namedArchitecture, entryHere, entryPast, entriesHere, entriesPast, setHere}
+use Rattle.head.specs.Named.{namedArchitecture, guardsBy}
+use Rattle.filter.specs.At.{entryHere, entryPast, entriesHere, entriesPast, setHere}
 use Rattle.filter.proofs.Laws.{entry-past, entry-further, entry-inside}
 use Rattle.filter.proofs.Agree.{read-agrees}
 
@@ -112,10 +113,15 @@ module _ (c : Call) (s : List ℕ) where
   unfolding meaning setHere
   meaning-other h = rw (ne-eqb _ _ h)
 
-  pub meaning-own : c .architecture ≡ architectureWord (namedArchitecture (numberAt 4 s 0))
+  pub meaning-killed : c .architecture ≡ architectureWord (namedArchitecture (numberAt 4 s 0)) → (guardsBy (numberAt 4 s 0) && inSecondTable (c .number)) ≡ true
+      → meaning (setHere s) c ≡ killProcess
+  unfolding meaning setHere guarded guardsBy
+  meaning-killed e k = rw (eq-eqb _ _ e, k)
+
+  pub meaning-own : c .architecture ≡ architectureWord (namedArchitecture (numberAt 4 s 0)) → (guardsBy (numberAt 4 s 0) && inSecondTable (c .number)) ≡ false
       → meaning (setHere s) c ≡ listed c (numberAt 4 s 8) (numberAt 4 s 4) (entriesHere s (numberAt 4 s 12) 16)
-  unfolding meaning setHere
-  meaning-own e = rw (eq-eqb _ _ e)
+  unfolding meaning setHere guarded guardsBy
+  meaning-own e k = rw (eq-eqb _ _ e, k)
 
 -- where all that is left ends in the bytes, the next entry does
 pub entry-fits : (s : List ℕ) (n at past : ℕ) → (n ≡ 0 → ⊥) → entriesPast s n at ≡ past → past ≤ length s

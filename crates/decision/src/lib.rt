@@ -1,12 +1,14 @@
 // What a rule set means for a call, straight from the bytes of both: no filter is made and none is run. A set is judged first, so that
 // the walk over its entries may trust every count in it.
 ghost use mathlib.Core.Path.{_≡_};
+ghost use mathlib.Core.Bool.{_&&_};
 ghost use Prim.Native.Nat.{_+_, _*_, _≤_};
 ghost use lib.ListN.{length};
 ghost use Rattle.definitions.specs.Word.{numberAt};
 ghost use Rattle.definitions.specs.Machine.{callOf};
 ghost use Rattle.definitions.specs.RuleSet as defined;
 ghost use Rattle.definitions.specs.Outcome as outcomes;
+ghost use Rattle.head.specs.Named.{guardsBy};
 ghost use Rattle.rule.specs.At.{conditionsHere, rulesHere, rulesPast};
 ghost use Rattle.filter.specs.At.{entriesHere, entriesPast, setHere};
 use condition::condition_here;
@@ -14,6 +16,8 @@ use definitions::Condition;
 use definitions::Operator;
 use definitions::Outcome;
 use definitions::Width;
+
+const KILL_PROCESS: u32 = 0x80000000;
 
 // What of a number is looked at.
 fn cut(width: Width, x: u64) -> u64
@@ -150,14 +154,28 @@ fn listed(call: &[u8], s: &[u8], n: u32, from: usize, m: u32, d: u32) -> u32
     d
 }
 
+// Whether a number is of a second table that is not served.
+fn kills(a: u32, number: u32) -> bool
+    ensures { λ r. ⌜ r ≡ (guardsBy a && defined.inSecondTable number) ⌝ }
+{
+    if head::guards(a) {
+        return head::in_second_table(number);
+    }
+    false
+}
+
 // What a set of the format means. A call of another architecture is killed.
 fn meaning(s: &[u8], call: &[u8]) -> u32
     requires { ⌜ (16 ≤ length (now s)) × (length (now s) ≤ 1048576) × (entriesPast (now s) (numberAt 4 (now s) 12) 16 ≤ length (now s)) ⌝ }
     requires { ⌜ length (now call) ≡ 64 ⌝ }
     ensures { λ r. ⌜ r ≡ defined.meaning (setHere (now (s .entry))) (callOf (now (call .entry))) ⌝ }
 {
-    if bpf::u32_at(call, 4) != filter::architecture_word(bpf::u32_at(s, 0)) {
-        return 0x80000000;
+    let a = bpf::u32_at(s, 0);
+    if bpf::u32_at(call, 4) != head::architecture_word(a) {
+        return KILL_PROCESS;
+    }
+    if kills(a, bpf::u32_at(call, 0)) {
+        return KILL_PROCESS;
     }
     let d = bpf::u32_at(s, 4);
     let m = bpf::u32_at(s, 8);

@@ -21,7 +21,7 @@ use Rattle.definitions.specs.declared.Width.the-variants.{Dword, Qword}
 use Rattle.definitions.specs.declared.Condition.{Condition}
 use Rattle.definitions.specs.declared.Fault.{Fault}
 use Rattle.definitions.specs.declared.Answer.{Answer}
-use Rattle.definitions.specs.RuleSet.{Rule, Entry, RuleSet}
+use Rattle.definitions.specs.RuleSet.{Rule, Entry, RuleSet, withEntries}
 use Rattle.definitions.specs.Emitted.{emitted}
 use Rattle.definitions.specs.Format.{read}
 
@@ -122,8 +122,7 @@ firstWith f seen (e ∷ es) = cond (f (seen ++ (e ∷ []))) (suc (firstWith f (s
 
 -- whether the filter, its last return included, is short enough with these entries
 abbrev pub shortWith : RuleSet → List Entry → Bool
-shortWith rs es =
-    ltb (length (emitted (record { architecture = rs .architecture; mismatch = rs .mismatch; onMatch = rs .onMatch; entries = es }))) tooMany
+shortWith rs es = ltb (length (emitted (withEntries rs es))) tooMany
 
 -- where an emitted filter is too long
 abbrev pub tooLong : RuleSet → Fault

@@ -6,10 +6,11 @@ use mathlib.Core.Bool.{true, cond}
 use mathlib.Core.List.{List, [], _∷_}
 use lib.Dec.{eqb}
 use lib.ListN.{length, take, drop}
+use lib.Bits.{bitAnd}
 use Rattle.definitions.specs.declared.Answer.{Answer}
 use Rattle.definitions.specs.Machine.{filterBytes, filterOf, Call, returns, start, runs, visits, steps, Climbs}
 use Rattle.definitions.specs.Kernel.{acceptsBytes}
-use Rattle.definitions.specs.RuleSet.{Rule, RuleSet, meaning, spanCount, rulesOf}
+use Rattle.definitions.specs.RuleSet.{Rule, RuleSet, secondTable, guarded, meaning, spanCount, rulesOf}
 use Rattle.definitions.specs.Emitted.{emitted, entryBody}
 use Rattle.definitions.specs.Format.{encode, InRange, read}
 use Rattle.definitions.specs.Answer.{noFault, answerBy, answerOf}
@@ -55,14 +56,18 @@ rulesSteps m d (r ∷ rs) c = steps (entryBody m d (r ∷ rs)) c
 abbrev pub foundSteps : RuleSet → Call → ℕ
 foundSteps rs c = rulesSteps (rs .onMatch) (rs .mismatch) (rulesOf (c .number) (rs .entries)) c
 
+-- what a guard adds: its first test, and for a number with the second table's bit its second
+abbrev pub guardSteps : RuleSet → Call → ℕ
+guardSteps rs c = cond (guarded rs) (cond (eqb (bitAnd (c .number) secondTable) 0) 1 2) 0
+
 -- what compiling into a search promises, `size` being how many instructions it makes
 pub record Searched (size : RuleSet → ℕ) (set before after : List ℕ) (r : Answer) : Type 0 where
   -- the answer is the smallest number that applies; with 6 no entry is named, since the filter does not grow by each
   pub answer : r ≡ answerBy size (λ rs. noFault) (read set) (length before)
   -- the filter is never longer than the emitted one
   pub shorter : (rs : RuleSet) → size rs ≤ length (emitted rs)
-  -- With at most 2 ^ k spans of listed numbers a run takes at most k + max 6 k instructions until the number's rules begin, or its return;
-  -- then what the rules take by themselves, or that return.
+  -- With at most 2 ^ k spans of listed numbers a run takes at most k + max 6 k instructions until the number's rules begin, or its return,
+  -- and beside them what a guard takes; then what the rules take by themselves, or that return.
   pub quick : r .code ≡ 0 → (rs : RuleSet) → FormOf rs set → (c : Call) (k : ℕ) → spanCount (rs .entries) ≤ 2 ^ k
-      → steps (filterOf (filterIn r after)) c ≤ k + max 6 k + foundSteps rs c
+      → steps (filterOf (filterIn r after)) c ≤ k + max 6 k + guardSteps rs c + foundSteps rs c
   pub behaves : Behaves set before after r

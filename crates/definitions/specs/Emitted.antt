@@ -1,7 +1,8 @@
--- The filter that is emitted for a rule set, instruction by instruction: the output of seccompiler 0.5.0, whose bytes are ours.
+-- The filter that is emitted for a rule set, instruction by instruction: the output of seccompiler 0.5.0, whose bytes are ours. What it
+-- does not know, the flag for native numbers only, is a guard between its instructions.
 -- A condition that fails jumps `f` instructions on, counted from behind its own last one, to just behind its rule's return.
-use Prim.Native.Nat.{ℕ, _+_, _*_}
-use mathlib.Core.Bool.{cond}
+use Prim.Native.Nat.{ℕ, zero, suc, _+_, _*_}
+use mathlib.Core.Bool.{Bool, true, false, cond}
 use mathlib.Core.List.{List, [], _∷_, _++_}
 use lib.Dec.{ltb}
 use lib.ListN.{length}
@@ -13,7 +14,7 @@ use Rattle.definitions.specs.declared.Width.{Width}
 use Rattle.definitions.specs.declared.Width.the-variants.{Dword, Qword}
 use Rattle.definitions.specs.declared.Condition.{Condition}
 use Rattle.definitions.specs.Word.{low, high}
-use Rattle.definitions.specs.RuleSet.{Rule, Entry, RuleSet, architectureWord, killProcess}
+use Rattle.definitions.specs.RuleSet.{Architecture, Rule, Entry, RuleSet, architectureWord, secondTable, cancelled, guarded, killProcess}
 
 -- ---- the instructions that are used: code, jt, jf, k
 
@@ -39,6 +40,10 @@ ifGreater k t f = instruction 0x25 t f k
 
 abbrev pub ifAtLeast : ℕ → ℕ → ℕ → Instruction
 ifAtLeast k t f = instruction 0x35 t f k
+
+-- jump t instructions on if what was loaded has one of the bits of k set, else f
+abbrev pub ifAnyBit : ℕ → ℕ → ℕ → Instruction
+ifAnyBit k t f = instruction 0x45 t f k
 
 abbrev pub return : ℕ → Instruction
 return k = instruction 0x06 0 0 k
@@ -115,6 +120,22 @@ distance (q ∷ qs) d = distance qs (stepDistance q d)
 unfoldable pub ruleCode : ℕ → Rule → List Instruction
 ruleCode m qs = (jumpBy 1 ∷ jumpBy (distance qs 1 + 1) ∷ []) ++ (conditionsCode qs 1 ++ (return m ∷ []))
 
+-- ---- the head: a call of another architecture is killed, since its numbers stand for other calls
+
+-- where a second table is not served, its numbers are killed
+abbrev pub guard : List Instruction
+guard = ifAnyBit secondTable 0 2 ∷ ifEqual cancelled 1 0 ∷ return killProcess ∷ []
+
+-- the number is loaded where it is looked at: by the guard, or by one of n entries
+unfoldable pub numberCode : Bool → ℕ → List Instruction
+numberCode true n = load 0 ∷ guard
+numberCode false zero = []
+numberCode false (suc n) = load 0 ∷ []
+
+-- in front of n entries: architecture a, with a guard or without
+unfoldable pub headCode : Architecture → Bool → ℕ → List Instruction
+headCode a guards n = load 4 ∷ ifEqual (architectureWord a) 1 0 ∷ return killProcess ∷ numberCode guards n
+
 -- ---- an entry, and the whole filter: match action m, mismatch action d
 
 unfoldable pub rulesCode : ℕ → List Rule → List Instruction
@@ -133,14 +154,16 @@ unfoldable pub entriesCode : ℕ → ℕ → List Entry → List Instruction
 entriesCode m d [] = []
 entriesCode m d (e ∷ es) = entryCode m d e ++ entriesCode m d es
 
+-- the entries, one after the other, and the return for a number that none of them lists
 unfoldable pub numbersCode : ℕ → ℕ → List Entry → List Instruction
-numbersCode m d [] = return d ∷ []
-numbersCode m d (e ∷ es) = load 0 ∷ (entriesCode m d (e ∷ es) ++ (return d ∷ []))
+numbersCode m d es = entriesCode m d es ++ (return d ∷ [])
+
+-- code behind a set's head
+abbrev pub headed : RuleSet → List Instruction → List Instruction
+headed rs p = headCode (rs .architecture) (guarded rs) (length (rs .entries)) ++ p
 
 unfoldable pub emitted : RuleSet → List Instruction
-emitted rs =
-    load 4 ∷ ifEqual (architectureWord (rs .architecture)) 1 0 ∷ return killProcess
-    ∷ numbersCode (rs .onMatch) (rs .mismatch) (rs .entries)
+emitted rs = headed rs (numbersCode (rs .onMatch) (rs .mismatch) (rs .entries))
 
 -- ---- a number's rules by themselves
 

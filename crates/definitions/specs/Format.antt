@@ -1,12 +1,12 @@
 -- Rule sets as bytes: how one is written, which ones can be, and a reader. All numbers lowest byte first.
 --
---   head       16 bytes  architecture (4), mismatch action (4), match action (4), number of entries (4)
+--   head       16 bytes  architecture (4; 256 is added for native numbers only), mismatch action (4), match action (4), number of entries (4)
 --   entry       8 bytes  call number (4), number of rules (4), then its rules
 --   rule        4 bytes  number of conditions (4), then its conditions
 --   condition  24 bytes  index, width (4 or 8), operator, one byte each; 5 zero bytes; value (8); mask (8; zero unless masked eq)
 --
 -- The reader needs no belief: theorem `formatted` says that it reads exactly what `encode` writes of rule sets in range.
-use Prim.Native.Nat.{ℕ, zero, suc, _+_, _^_, _/_, _≤_, _<_}
+use Prim.Native.Nat.{ℕ, zero, suc, _+_, _-_, _^_, _/_, _≤_, _<_}
 use mathlib.Core.Path.{_≡_}
 use mathlib.Core.Bool.{Bool, true, false, cond, not, _&&_, _||_}
 use mathlib.Core.List.{List, [], _∷_, _++_}
@@ -27,6 +27,13 @@ unfoldable pub architectureNumber : Architecture → ℕ
 architectureNumber x86-64 = 1
 architectureNumber aarch64 = 2
 architectureNumber riscv64 = 3
+
+-- what is added to it where only native numbers are served
+abbrev pub nativeFlag : ℕ
+nativeFlag = 256
+
+unfoldable pub headNumber : Architecture → Bool → ℕ
+headNumber a native = architectureNumber a + cond native nativeFlag 0
 
 unfoldable pub widthNumber : Width → ℕ
 widthNumber Dword = 4
@@ -59,7 +66,7 @@ encodeEntry e = bytesOf 4 (e .number) ++ (bytesOf 4 (length (e .rules)) ++ joine
 
 unfoldable pub encode : RuleSet → List ℕ
 encode rs =
-    bytesOf 4 (architectureNumber (rs .architecture)) ++ (bytesOf 4 (rs .mismatch) ++ (bytesOf 4 (rs .onMatch)
+    bytesOf 4 (headNumber (rs .architecture) (rs .nativeOnly)) ++ (bytesOf 4 (rs .mismatch) ++ (bytesOf 4 (rs .onMatch)
     ++ (bytesOf 4 (length (rs .entries)) ++ joined encodeEntry (rs .entries))))
 
 -- ---- ranges: the rule sets that have a byte form
@@ -95,8 +102,16 @@ pub record InRange (rs : RuleSet) : Type 0 where
 
 -- ---- reading
 
+-- the flag of a head's first number, and what is left without it
+unfoldable pub nativeOf : ℕ → Bool
+nativeOf n = leb nativeFlag n
+
+unfoldable pub unflagged : ℕ → ℕ
+unflagged n = cond (nativeOf n) (n - nativeFlag) n
+
 unfoldable pub architectureOf : ℕ → Option Architecture
-architectureOf n = cond (eqb n 1) (some x86-64) (cond (eqb n 2) (some aarch64) (cond (eqb n 3) (some riscv64) none))
+architectureOf n =
+    cond (eqb (unflagged n) 1) (some x86-64) (cond (eqb (unflagged n) 2) (some aarch64) (cond (eqb (unflagged n) 3) (some riscv64) none))
 
 unfoldable pub widthOf : ℕ → Option Width
 widthOf n = cond (eqb n 4) (some Dword) (cond (eqb n 8) (some Qword) none)
@@ -165,4 +180,10 @@ read bs =
     (then (architectureOf (numberAt 4 bs 0)) (λ a.
     then (times (entryAt bs) (numberAt 4 bs 12) 16) (λ entries.
     check (eqb (entries .past) (length bs))
-    (some (record { architecture = a; mismatch = numberAt 4 bs 4; onMatch = numberAt 4 bs 8; entries = entries .value })))))
+    (some (record {
+      architecture = a;
+      nativeOnly = nativeOf (numberAt 4 bs 0);
+      mismatch = numberAt 4 bs 4;
+      onMatch = numberAt 4 bs 8;
+      entries = entries .value;
+    })))))

@@ -1,10 +1,11 @@
 -- Rule sets made part by part, as a host makes them: a set is started, numbers are listed, rules are begun and conditions are added.
 -- Each part goes behind the last one.
 use Prim.Native.Nat.{ℕ}
+use mathlib.Core.Bool.{Bool}
 use mathlib.Core.List.{List, [], _∷_, _++_}
 use mathlib.Core.Option.{Option, some}
 use Rattle.definitions.specs.declared.Condition.{Condition}
-use Rattle.definitions.specs.RuleSet.{Architecture, Rule, Entry, RuleSet}
+use Rattle.definitions.specs.RuleSet.{Architecture, Rule, Entry, RuleSet, withEntries}
 use Rattle.definitions.specs.Format.{widthOf, operatorOf, maskTaken, then, check}
 
 -- the last of a list changed
@@ -20,14 +21,14 @@ lastRules (e ∷ []) = e .rules
 lastRules (e ∷ (f ∷ es)) = lastRules (f ∷ es)
 
 abbrev pub onEntries : (List Entry → List Entry) → RuleSet → RuleSet
-onEntries f rs = record { architecture = rs .architecture; mismatch = rs .mismatch; onMatch = rs .onMatch; entries = f (rs .entries) }
+onEntries f rs = withEntries rs (f (rs .entries))
 
 abbrev pub onRules : (List Rule → List Rule) → Entry → Entry
 onRules f e = record { number = e .number; rules = f (e .rules) }
 
 -- a set with nothing listed
-abbrev pub started : Architecture → ℕ → ℕ → RuleSet
-started a d m = record { architecture = a; mismatch = d; onMatch = m; entries = [] }
+abbrev pub started : Architecture → Bool → ℕ → ℕ → RuleSet
+started a native d m = record { architecture = a; nativeOnly = native; mismatch = d; onMatch = m; entries = [] }
 
 -- a number listed, with no rules yet
 abbrev pub withEntry : ℕ → RuleSet → RuleSet

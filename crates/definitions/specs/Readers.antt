@@ -10,7 +10,7 @@ use lib.ListN.{length, drop}
 use Rattle.definitions.specs.declared.Condition.{Condition}
 use Rattle.definitions.specs.Word.{numberAt}
 use Rattle.definitions.specs.RuleSet.{Rule, Entry, RuleSet}
-use Rattle.definitions.specs.Format.{architectureNumber, widthNumber, operatorNumber, joined, encodeCondition, encodeRule, encodeEntry}
+use Rattle.definitions.specs.Format.{headNumber, widthNumber, operatorNumber, joined, encodeCondition, encodeRule, encodeEntry}
 use Rattle.definitions.specs.Format.{Each, ConditionInRange, EntryInRange, Read, conditionAt}
 use Rattle.definitions.specs.declared.Cursor.{Cursor}
 use Rattle.definitions.specs.declared.Head.{Head}
@@ -110,7 +110,7 @@ pub record Left (s : List ℕ) (c : Cursor) (qs : List Condition) (rs : List Rul
 
 pub record HeadGiven (rs : RuleSet) (s : List ℕ) (r : Head) : Type 0 where
   pub code : r .next .code ≡ 0
-  pub architecture : r .architecture ≡ architectureNumber (rs .architecture)
+  pub architecture : r .architecture ≡ headNumber (rs .architecture) (rs .nativeOnly)
   pub mismatch : r .mismatch ≡ rs .mismatch
   pub onMatch : r .«on_match» ≡ rs .onMatch
   pub left : Left s (r .next) [] [] (rs .entries)

@@ -14,7 +14,7 @@ use Rattle.definitions.specs.declared.Width.the-variants.{Dword, Qword}
 use Rattle.definitions.specs.declared.Condition.{Condition}
 use Rattle.definitions.specs.Machine.{Call}
 
--- ---- what a rule set is
+-- ---- architectures, and what numbers their calls have
 
 pub data Architecture : Type 0 where
   x86-64 aarch64 riscv64 : Architecture
@@ -23,6 +23,24 @@ unfoldable pub architectureWord : Architecture → ℕ
 architectureWord x86-64 = 0xc000003e
 architectureWord aarch64 = 0xc00000b7
 architectureWord riscv64 = 0xc00000f3
+
+-- On x86_64 the kernel serves a second table of calls (x32) under the same architecture word. Its numbers have this bit set.
+abbrev pub secondTable : ℕ
+secondTable = 0x40000000
+
+-- the number of a call that a tracer has cancelled: it is of no table
+abbrev pub cancelled : ℕ
+cancelled = 0xffffffff
+
+unfoldable pub inSecondTable : ℕ → Bool
+inSecondTable n = not (eqb (bitAnd n secondTable) 0) && not (eqb n cancelled)
+
+unfoldable pub hasSecondTable : Architecture → Bool
+hasSecondTable x86-64 = true
+hasSecondTable aarch64 = false
+hasSecondTable riscv64 = false
+
+-- ---- what a rule set is
 
 -- a rule: all its conditions must hold
 abbrev pub Rule : Type 0
@@ -33,12 +51,23 @@ pub record Entry : Type 0 where
   pub number : ℕ
   pub rules : List Rule
 
--- actions are the words that a filter returns
+-- actions are the words that a filter returns; `nativeOnly`: no call of a second table is served
 pub record RuleSet : Type 0 where
   pub architecture : Architecture
+  pub nativeOnly : Bool
   pub mismatch : ℕ
   pub onMatch : ℕ
   pub entries : List Entry
+
+-- the same, but for the entries
+abbrev pub withEntries : RuleSet → List Entry → RuleSet
+withEntries rs es = record {
+  architecture = rs .architecture;
+  nativeOnly = rs .nativeOnly;
+  mismatch = rs .mismatch;
+  onMatch = rs .onMatch;
+  entries = es;
+}
 
 -- ---- action words
 
@@ -101,9 +130,15 @@ unfoldable pub listed : Call → ℕ → ℕ → List Entry → ℕ
 listed c m d [] = d
 listed c m d (e ∷ es) = cond (eqb (c .number) (e .number)) (cond (matches c (e .rules)) m d) (listed c m d es)
 
+-- whether there is a second table, and it is not served
+unfoldable pub guarded : RuleSet → Bool
+guarded rs = rs .nativeOnly && hasSecondTable (rs .architecture)
+
 unfoldable pub meaning : RuleSet → Call → ℕ
 meaning rs c =
-    cond (eqb (c .architecture) (architectureWord (rs .architecture))) (listed c (rs .onMatch) (rs .mismatch) (rs .entries)) killProcess
+    cond (eqb (c .architecture) (architectureWord (rs .architecture)))
+    (cond (guarded rs && inSecondTable (c .number)) killProcess (listed c (rs .onMatch) (rs .mismatch) (rs .entries)))
+    killProcess
 
 -- ---- how the listed numbers lie
 
@@ -143,6 +178,7 @@ pub data MoreEntries (old new : List Entry) : Type 0 where
 
 pub record Grown (old new : RuleSet) : Type 0 where
   pub architecture : new .architecture ≡ old .architecture
+  pub nativeOnly : new .nativeOnly ≡ old .nativeOnly
   pub mismatch : new .mismatch ≡ old .mismatch
   pub onMatch : new .onMatch ≡ old .onMatch
   pub entries : MoreEntries (old .entries) (new .entries)

@@ -9,7 +9,7 @@ use lib.Dec.{leb}
 use lib.ListN.{length, take, drop}
 use Rattle.definitions.specs.declared.Writer.{Writer}
 use Rattle.definitions.specs.RuleSet.{Architecture, Rule, Entry, RuleSet, isAction}
-use Rattle.definitions.specs.Format.{joined, encodeRule, encodeEntry, architectureOf, isThere}
+use Rattle.definitions.specs.Format.{joined, encodeRule, encodeEntry, nativeOf, architectureOf, isThere}
 use Rattle.definitions.specs.Compiled.{FormOf}
 use Rattle.definitions.specs.Parts.{started}
 
@@ -63,7 +63,7 @@ startCode a d m size = cond (not (headGood a d m)) 1 (cond (leb 16 size) 0 3)
 pub record Started (a d m : ℕ) (before after : List ℕ) (r : Writer) : Type 0 where
   pub code : r .code ≡ startCode a d m (length before)
   pub refused : (r .code ≡ 0 → ⊥) → (after ≡ before) × (r ≡ record { code = r .code; end = 0; entry = 0; rule = 0 })
-  pub taken : r .code ≡ 0 → (known : Architecture) → architectureOf a ≡ some known → Holds (started known d m) after r
+  pub taken : r .code ≡ 0 → (known : Architecture) → architectureOf a ≡ some known → Holds (started known (nativeOf a) d m) after r
   -- what stands behind the head is as it was
   pub kept : drop (r .end) after ≡ drop (r .end) before
 
@@ -80,7 +80,7 @@ pub record Added (part : Option (RuleSet → RuleSet)) (ordered : Bool) (more : 
 -- a buffer and a state that calls have made since `start`, and the rule set of the parts that were taken, in order
 pub data Made : RuleSet → List ℕ → Writer → Type 0 where
   begun : (a d m : ℕ) (known : Architecture) (before after : List ℕ) (r : Writer) → Started a d m before after r → r .code ≡ 0
-      → architectureOf a ≡ some known → Made (started known d m) after r
+      → architectureOf a ≡ some known → Made (started known (nativeOf a) d m) after r
   taken : (part : Option (RuleSet → RuleSet)) (ordered : Bool) (more : ℕ) (add : RuleSet → RuleSet) (rs : RuleSet) (before after : List ℕ)
       (w r : Writer) → Made rs before w → Added part ordered more before after w r → r .code ≡ 0 → part ≡ some add → Made (add rs) after r
   refused : (part : Option (RuleSet → RuleSet)) (ordered : Bool) (more : ℕ) (rs : RuleSet) (before after : List ℕ) (w r : Writer)

@@ -1,32 +1,20 @@
 -- Where the format's reader gives a rule set, it is that of the total readers, and the bytes are exactly used up. So the code that is
 -- proved by the total readers writes the filter of the reader's rule set.
-use mathlib.Core.Path.{_≡_, sym, _∙_}
-use mathlib.Core.Bool.{Bool, true, false, cond, _&&_}
+use mathlib.Core.Path.{_≡_, sym}
 use mathlib.Core.List.{List}
-use mathlib.Core.Option.{none, some}
-use Prim.Native.Nat.{ℕ, zero, suc, _+_, _^_, _≤_}
-use lib.Dec.{eqb, leb}
+use mathlib.Core.Option.{some}
+use Prim.Native.Nat.{ℕ, zero, suc, _+_, _≤_}
+use lib.Dec.{leb}
 use lib.ListN.{length}
-use borrow.Author.Tests.{eqb-true, leb-true}
 use Rattle.definitions.specs.Word.{numberAt}
-use Rattle.definitions.specs.RuleSet.{Architecture, x86-64, aarch64, riscv64, Entry, RuleSet, isAction}
-use Rattle.definitions.specs.Format.{Read, architectureOf, times, ruleAt, entryAt, read}
+use Rattle.definitions.specs.RuleSet.{Entry, RuleSet}
+use Rattle.definitions.specs.Format.{Read, times, ruleAt, entryAt, read}
 use Rattle.theorems.proofs.Tests.{check-some, then-some}
 use Rattle.theorems.proofs.Reading.{seen}
 use Rattle.condition.proofs.Agree.{Reads}
 use Rattle.rule.proofs.Agree.{rules-agree}
-use Rattle.filter.specs.At.{namedArchitecture, entryHere, entryPast, entriesHere, entriesPast, setHere}
-
-architecture-by : (a b c : Bool) (w : Architecture) → cond a (some x86-64) (cond b (some aarch64) (cond c (some riscv64) none)) ≡ some w
-    → w ≡ cond a x86-64 (cond b aarch64 riscv64)
-architecture-by true b c w h = cc
-architecture-by false true c w h = cc
-architecture-by false false true w h = cc
-architecture-by false false false w h = cc
-
-architecture-agrees : (n : ℕ) (w : Architecture) → architectureOf n ≡ some w → w ≡ namedArchitecture n
-unfolding architectureOf namedArchitecture
-architecture-agrees n w h = architecture-by (eqb n 1) (eqb n 2) (eqb n 3) w h
+use Rattle.head.proofs.Laws.{architecture-agrees}
+use Rattle.filter.specs.At.{entryHere, entryPast, entriesHere, entriesPast, setHere}
 
 pub entry-agrees : (s : List ℕ) (at : ℕ) {r : Read Entry} → entryAt s at ≡ some r → Reads r (entryHere s at) (entryPast s at)
 unfolding entryAt entryHere entryPast
@@ -51,5 +39,5 @@ unfolding setHere
 read-agrees s rs h =
     let r = seen s rs h in
     let e = entries-agree s (numberAt 4 s 12) 16 (r .entries) in
-    let same : rs ≡ setHere s = rw (← architecture-agrees (numberAt 4 s 0) (rs .architecture) (r .architecture), ← e .0, ← r .mismatch, ← r .onMatch) in
+    let same : rs ≡ setHere s = rw (← architecture-agrees (numberAt 4 s 0) (rs .architecture) (r .architecture), ← r .nativeOnly, ← e .0, ← r .mismatch, ← r .onMatch) in
     (same, r .long, r .short, sym (e .1))

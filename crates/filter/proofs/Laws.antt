@@ -1,8 +1,8 @@
 -- Laws of a filter's instructions and of the places that its entries are read from: one turn of the loop, its end, and how the parts
 -- make up the whole. Assumes nothing.
-use mathlib.Core.Path.{_≡_, refl}
+use mathlib.Core.Path.{_≡_, refl, ap}
 use mathlib.Core.Bool.{Bool, true, false, not}
-use mathlib.Core.List.{List, [], _∷_, _++_}
+use mathlib.Core.List.{List, [], _∷_, _++_, append-assoc}
 use Prim.Native.Nat.{ℕ, zero, suc, _+_, _-_, _*_, _≤_, _<_}
 use native.Mathlib.Omega.{arith}
 use lib.Dec.{eqb}
@@ -11,14 +11,15 @@ use borrow.Author.Tests.{eq-eqb, eqb-true}
 use Rattle.definitions.specs.declared.Instruction.{Instruction}
 use Rattle.definitions.specs.Word.{numberAt}
 use Rattle.definitions.specs.Machine.{instructionBytes, filterBytes}
-use Rattle.definitions.specs.RuleSet.{architectureWord, killProcess}
-use Rattle.definitions.specs.Emitted.{load, jumpBy, ifEqual, return, rulesCode, bodyCode, entryCode, entriesCode, numbersCode, emitted}
+use Rattle.definitions.specs.RuleSet.{guarded}
+use Rattle.definitions.specs.Emitted.{jumpBy, ifEqual, return, rulesCode, bodyCode, entryCode, entriesCode, numbersCode, headCode, headed, emitted}
 use Rattle.theorems.proofs.Tests.{both-true}
 use Rattle.bpf.specs.Place.{place}
 use Rattle.bpf.proofs.Laws.{put-first, put-next, puts-append}
+use Rattle.head.specs.Named.{namedArchitecture, guardsBy}
 use Rattle.rule.specs.At.{rulesHere, rulesPast}
 use Rattle.rule.proofs.Laws.{past-none, past-further}
-use Rattle.filter.specs.At.{namedArchitecture, entryHere, entryPast, entriesHere, entriesPast, plainHere, setHere}
+use Rattle.filter.specs.At.{entryHere, entryPast, entriesHere, entriesPast, plainHere, setHere}
 
 -- ---- an instruction, a run of them, and an instruction
 
@@ -116,27 +117,32 @@ plain-passed s n from (suc run) at h stop e = omega arith
 
 -- ---- the whole filter
 
-pub numbers-none : (s : List ℕ) (n at m d : ℕ) → n ≡ 0 → numbersCode m d (entriesHere s n at) ≡ return d ∷ []
-unfolding numbersCode entriesHere
-numbers-none s n at m d e = rw e
+pub entries-many : (s : List ℕ) (n at : ℕ) → length (entriesHere s n at) ≡ n
+unfolding entriesHere
+entries-many s zero at = refl
+entries-many s (suc n) at = ap suc (entries-many s n (entryPast s at))
 
-pub numbers-some : (s : List ℕ) (n at m d : ℕ) → (n ≡ 0 → ⊥)
-    → numbersCode m d (entriesHere s n at) ≡ load 0 ∷ (entriesCode m d (entriesHere s n at) ++ (return d ∷ []))
-unfolding numbersCode entriesHere
-numbers-some s zero at m d h = absurd (h refl)
-numbers-some s (suc n) at m d h = refl
+-- the head of the set that is here, and its entries
+abbrev pub headHere : List ℕ → List Instruction
+headHere s = headCode (namedArchitecture (numberAt 4 s 0)) (guardsBy (numberAt 4 s 0)) (numberAt 4 s 12)
 
-pub numbers-length : (s : List ℕ) (n at m d : ℕ) → (n ≡ 0 → ⊥)
-    → length (numbersCode m d (entriesHere s n at)) ≡ 2 + length (entriesCode m d (entriesHere s n at))
-numbers-length s n at m d h = rw (numbers-some s n at m d h) (simp length-append (omega arith))
+abbrev pub codeHere : List ℕ → List Instruction
+codeHere s = entriesCode (numberAt 4 s 8) (numberAt 4 s 4) (entriesHere s (numberAt 4 s 12) 16)
 
-pub filter-is : (s : List ℕ)
-    → emitted (setHere s)
-    ≡ (load 4 ∷ ifEqual (architectureWord (namedArchitecture (numberAt 4 s 0))) 1 0 ∷ return killProcess ∷ [])
-    ++ numbersCode (numberAt 4 s 8) (numberAt 4 s 4) (entriesHere s (numberAt 4 s 12) 16)
-unfolding emitted setHere
-filter-is s = refl
+-- code behind the head of the set that is here
+pub headed-is : (s : List ℕ) (p : List Instruction) → headed (setHere s) p ≡ headHere s ++ p
+unfolding setHere guarded guardsBy
+headed-is s p = rw (entries-many s (numberAt 4 s 12) 16)
 
-pub filter-length : (s : List ℕ)
-    → length (emitted (setHere s)) ≡ 3 + length (numbersCode (numberAt 4 s 8) (numberAt 4 s 4) (entriesHere s (numberAt 4 s 12) 16))
-filter-length s = rw (filter-is s) (omega arith)
+pub filter-is : (s : List ℕ) → emitted (setHere s) ≡ headHere s ++ (codeHere s ++ (return (numberAt 4 s 4) ∷ []))
+unfolding emitted numbersCode setHere
+filter-is s = headed-is s _
+
+pub filter-length : (s : List ℕ) → length (emitted (setHere s)) ≡ length (headHere s) + length (codeHere s) + 1
+filter-length s = rw (filter-is s, length-append, length-append) (omega arith)
+
+-- a head, a run of instructions behind it, and an instruction
+pub put-headed : (l : List ℕ) (at end : ℕ) (h is : List Instruction) (j : Instruction) → at ≡ 8 * length h → end ≡ at + 8 * length is → end + 8 ≤ length l
+    → place (place (place l 0 (filterBytes h)) at (filterBytes is)) end (instructionBytes j) ≡ place l 0 (filterBytes (h ++ (is ++ (j ∷ []))))
+put-headed l at end h is j e f room =
+    rw (puts-append l 0 at h is (omega arith) (omega arith), put-next l 0 end (h ++ is) j (omega (arith, length-append h is)) room, append-assoc)

@@ -1,15 +1,14 @@
 -- The entries that stand at a place of a rule set's bytes, and the whole rule set, as total functions. They say nothing of whether the
 -- bytes are in the format: where they are, this is the rule set that the format's reader gives.
 use Prim.Native.Nat.{ℕ, zero, suc, _+_}
-use mathlib.Core.Bool.{Bool, cond, not, _&&_}
+use mathlib.Core.Bool.{Bool, not, _&&_}
 use mathlib.Core.List.{List, [], _∷_}
 use lib.Dec.{eqb}
 use Rattle.definitions.specs.Word.{numberAt}
-use Rattle.definitions.specs.RuleSet.{Architecture, x86-64, aarch64, riscv64, Entry, RuleSet}
+use Rattle.definitions.specs.RuleSet.{Entry, RuleSet}
+use Rattle.definitions.specs.Format.{nativeOf}
+use Rattle.head.specs.Named.{namedArchitecture}
 use Rattle.rule.specs.At.{rulesHere, rulesPast}
-
-unfoldable pub namedArchitecture : ℕ → Architecture
-namedArchitecture n = cond (eqb n 1) x86-64 (cond (eqb n 2) aarch64 riscv64)
 
 -- an entry at a place, and where it ends
 unfoldable pub entryHere : List ℕ → ℕ → Entry
@@ -35,6 +34,7 @@ unfoldable pub setHere : List ℕ → RuleSet
 setHere s =
     record {
       architecture = namedArchitecture (numberAt 4 s 0);
+      nativeOnly = nativeOf (numberAt 4 s 0);
       mismatch = numberAt 4 s 4;
       onMatch = numberAt 4 s 8;
       entries = entriesHere s (numberAt 4 s 12) 16;

@@ -7,41 +7,15 @@ ghost use Prim.Native.Nat.{_+_, _-_, _*_, _≤_, _<_};
 ghost use lib.ListN.{length};
 ghost use Rattle.definitions.specs.Word.{numberAt};
 ghost use Rattle.definitions.specs.Machine.{filterBytes};
-ghost use Rattle.definitions.specs.RuleSet.{architectureWord, killProcess};
 ghost use Rattle.definitions.specs.Emitted as emitted;
-ghost use Rattle.definitions.specs.Emitted.{bodyCode, entryCode, entriesCode, numbersCode};
+ghost use Rattle.definitions.specs.Emitted.{bodyCode, entryCode, entriesCode};
 ghost use Rattle.bpf.specs.Place.{place, Writing};
 ghost use Rattle.rule.specs.At.{rulesHere, rulesPast};
-ghost use Rattle.filter.specs.At.{namedArchitecture, entryHere, entryPast, entriesHere, entriesPast, plainHere, setHere};
+ghost use Rattle.filter.specs.At.{entryHere, entryPast, entriesHere, entriesPast, plainHere, setHere};
 use bpf::give;
 use bpf::if_equal;
 use bpf::jump_by;
-use bpf::load;
 use rule::Written;
-
-pub fn architecture_word(a: u32) -> u32
-    ensures { λ r. ⌜ r ≡ architectureWord (namedArchitecture a) ⌝ }
-{
-    if a == 1 {
-        return 0xc000003e;
-    }
-    if a == 2 {
-        return 0xc00000b7;
-    }
-    0xc00000f3
-}
-
-// Writes the test of the architecture, which stands at 4 in the call data. A call of another one is killed, since its numbers stand
-// for other calls.
-pub fn put_head(out: &mut [u8], a: u32)
-    requires { ⌜ 24 ≤ length (now out) ⌝ }
-    ensures { λ _. ⌜ now (out .exit) ≡ place (now (out .entry)) 0
-        (filterBytes (emitted.load 4 ∷ emitted.ifEqual (architectureWord (namedArchitecture a)) 1 0 ∷ emitted.return killProcess ∷ [])) ⌝ }
-{
-    bpf::put(out, 0, load(4));
-    bpf::put(out, 8, if_equal(architecture_word(a), 1, 0));
-    bpf::put(out, 16, give(0x80000000));
-}
 
 // Writes what stands for no rules at all: the number matches whatever its arguments are. Match action m.
 fn put_always(out: &mut [u8], at: usize, m: u32)
@@ -186,22 +160,6 @@ fn put_entries(out: &mut [u8], s: &[u8], n: u32, from: usize, at: usize, m: u32,
     end
 }
 
-// Writes what stands behind the test of the architecture: the load of the number, which stands at 0 in the call data, the n entries,
-// and the return for a number that none of them lists. Match action m, mismatch action d.
-fn put_numbers(out: &mut [u8], s: &[u8], n: u32, m: u32, d: u32)
-    requires { ⌜ (entriesPast (now s) n 16 ≤ length (now s)) × (length (now s) ≤ 1048576) ⌝ }
-    requires { ⌜ 24 + 8 * length (numbersCode m d (entriesHere (now s) n 16)) ≤ length (now out) ⌝ }
-    ensures { λ _. ⌜ now (out .exit) ≡ place (now (out .entry)) 24 (filterBytes (numbersCode m d (entriesHere (now (s .entry)) n 16))) ⌝ }
-{
-    if n == 0 {
-        bpf::put(out, 24, give(d));
-        return;
-    }
-    bpf::put(out, 24, load(0));
-    let end = put_entries(out, s, n, 16, 32, m, d);
-    bpf::put(out, end, give(d));
-}
-
 // Writes the filter of a rule set at the buffer's start.
 pub fn put_filter(out: &mut [u8], s: &[u8])
     requires { ⌜ (16 ≤ length (now s)) × (length (now s) ≤ 1048576) × (entriesPast (now s) (numberAt 4 (now s) 12) 16 ≤ length (now s)) ⌝ }
@@ -211,6 +169,8 @@ pub fn put_filter(out: &mut [u8], s: &[u8])
     let d = bpf::u32_at(s, 4);
     let m = bpf::u32_at(s, 8);
     let n = bpf::u32_at(s, 12);
-    put_head(out, bpf::u32_at(s, 0));
-    put_numbers(out, s, n, m, d);
+    let at = head::put_head(out, bpf::u32_at(s, 0), n);
+    let end = put_entries(out, s, n, 16, at, m, d);
+    // a number that no entry lists
+    bpf::put(out, end, give(d));
 }

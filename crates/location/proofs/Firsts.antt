@@ -4,14 +4,15 @@ use mathlib.Core.Path.{_≡_, refl, ap, sym, _∙_}
 use mathlib.Core.Bool.{Bool, true, false, cond, _&&_, and-true, and-assoc}
 use mathlib.Core.List.{List, [], _∷_, _++_}
 use Prim.Native.Nat.{ℕ, suc, _+_, _<_}
+use native.Mathlib.Nat.{add-zero, add-assoc}
 use native.Mathlib.Numerals.{add-one}
 use native.Mathlib.Omega.{arith}
 use lib.Dec.{eqb, leb, ltb, eqb·zero-suc, eqb·suc-suc}
 use lib.ListN.{length, getD, List·getD-eq-default}
 use borrow.Author.Tests.{ne-eqb, le-leb}
-use Rattle.definitions.specs.RuleSet.{Entry, RuleSet}
+use Rattle.definitions.specs.RuleSet.{Entry, RuleSet, withEntries, hasSecondTable, guarded}
 use Rattle.definitions.specs.Answer.{ascending, all, tooMany, fault, nowhere, noFault, noEntry, firstFailing, faultyRule, firstWith, shortWith, tooLong, faultOf}
-use Rattle.theorems.specs.Length.{sum, entryLength, filterLength}
+use Rattle.theorems.specs.Length.{sum, entryLength, headLength, filterLength}
 use Rattle.theorems.proofs.Lengths.{length-emitted}
 use Rattle.location.specs.Walk.{takenBy, passesBy, toldBy, faultIn, entryBy, carriedBy, firstBy}
 
@@ -80,7 +81,7 @@ module _ (code carried : ℕ) where
 -- a turn, by the code
 module _ (code carried : ℕ) (e : Entry) where
   pub turn-length : (count : ℕ) → code ≡ 6 → count ≡ carried + entryLength e
-      → (ltb (count + 5) tooMany ≡ entryBy code carried e) × (count ≡ carriedBy code carried e)
+      → (ltb count tooMany ≡ entryBy code carried e) × (count ≡ carriedBy code carried e)
   unfolding entryBy carriedBy
   turn-length count six c = rw (six, c) (refl, refl)
 
@@ -128,16 +129,26 @@ sum-more : (es : List Entry) (e : Entry) → sum entryLength (es ++ (e ∷ [])) 
 sum-more [] e = omega arith
 sum-more (x ∷ es) e = omega (arith, sum-more es e)
 
-length-more : (es : List Entry) (e : Entry) → filterLength (es ++ (e ∷ [])) ≡ sum entryLength es + entryLength e + 5
-unfolding filterLength
-length-more [] e = omega arith
-length-more (x ∷ es) e = omega (arith, sum-more (x ∷ es) e)
+-- what stands around the entries, however many there are
+abbrev pub around : RuleSet → ℕ
+around rs = headLength (guarded rs) 1 + 1
 
-walk-lengths : (rs : RuleSet) (seen es : List Entry) → firstWith (shortWith rs) seen es ≡ firstBy 6 (sum entryLength seen) es
+head-more : (guards : Bool) (es : List Entry) (e : Entry) → headLength guards (length (es ++ (e ∷ []))) ≡ headLength guards 1
+unfolding headLength
+head-more true es e = refl
+head-more false [] e = refl
+head-more false (x ∷ es) e = refl
+
+length-more : (rs : RuleSet) (es : List Entry) (e : Entry)
+    → filterLength (withEntries rs (es ++ (e ∷ []))) ≡ around rs + sum entryLength es + entryLength e
+unfolding filterLength guarded
+length-more rs es e = rw (head-more (rs .nativeOnly && hasSecondTable (rs .architecture)) es e, sum-more es e) (omega arith)
+
+walk-lengths : (rs : RuleSet) (seen es : List Entry) → firstWith (shortWith rs) seen es ≡ firstBy 6 (around rs + sum entryLength seen) es
 unfolding firstWith firstBy entryBy carriedBy
 walk-lengths rs seen [] = refl
 walk-lengths rs seen (e ∷ es) =
-    rw (length-emitted _, length-more seen e, walk-lengths rs (seen ++ (e ∷ [])) es, sum-more seen e)
+    rw (length-emitted _, length-more rs seen e, walk-lengths rs (seen ++ (e ∷ [])) es, sum-more seen e, ← add-assoc (around rs) (sum entryLength seen) (entryLength e))
 
 -- ---- where the fault is
 
@@ -146,9 +157,9 @@ module _ (rs : RuleSet) (code : ℕ) where
   unfolding faultOf ascending
   at-number e = rw (e, walk-numbers 0 [] (rs .entries) (λ f. sym (le-leb 0 (f .number) (omega arith))))
 
-  pub at-length : code ≡ 6 → faultOf (tooLong rs) code rs ≡ fault (firstBy code 0 (rs .entries)) nowhere nowhere
+  pub at-length : code ≡ 6 → faultOf (tooLong rs) code rs ≡ fault (firstBy code (around rs) (rs .entries)) nowhere nowhere
   unfolding faultOf
-  at-length e = rw (e, walk-lengths rs [] (rs .entries))
+  at-length e = rw (e, walk-lengths rs [] (rs .entries), add-zero (around rs))
 
   pub at-rule : code ≡ 4 → faultOf (tooLong rs) code rs ≡ faultyRule (passesBy code) (toldBy code) (rs .entries)
   unfolding faultOf passesBy toldBy

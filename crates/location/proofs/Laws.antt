@@ -17,7 +17,7 @@ use Rattle.rule.specs.At.{conditionsHere, rulesHere, rulesPast}
 use Rattle.rule.proofs.Laws.{past-further}
 use Rattle.ruleset.specs.Scan.{bodyOr}
 use Rattle.filter.specs.At.{entryHere, entryPast, entriesHere, entriesPast}
-use Rattle.filter.proofs.Laws.{entry-past, entry-further, entries-further}
+use Rattle.filter.proofs.Laws.{entry-past, entry-further, entries-further, entries-many}
 use Rattle.location.specs.Walk.{passesBy, toldBy, faultIn, firstBy}
 use Rattle.location.proofs.Firsts.{failing-inside, faulty-is, faulty-there}
 
@@ -120,11 +120,6 @@ module _ (s : List ℕ) where
   unfolding entriesHere
   entries-none n k at h = let e : n - k ≡ 0 = omega arith in rw e
 
-  pub entries-many : (n at : ℕ) → length (entriesHere s n at) ≡ n
-  unfolding entriesHere
-  entries-many zero at = refl
-  entries-many (suc n) at = ap suc (entries-many n (entryPast s at))
-
   entry-at : (n at k : ℕ) → k < n → getD (entriesHere s n at) k noEntry ≡ entryHere s (entriesPast s k at)
   unfolding entriesHere entriesPast
   entry-at zero at k h = absurd (omega arith)
@@ -152,6 +147,6 @@ module _ (s : List ℕ) where
       × (faultyRule (passesBy code) (toldBy code) (entriesHere s n 16) ≡ faultIn code index (entryHere s (entriesPast s index 16)))
   entry-found code n index six two e h =
       let es = entriesHere s n 16 in
-      let w = faulty-there code es index six two e (λ q. h (q ∙ entries-many n 16)) in
-      let i : index < n = omega (arith, w .0, entries-many n 16) in
+      let w = faulty-there code es index six two e (λ q. h (q ∙ entries-many s n 16)) in
+      let i : index < n = omega (arith, w .0, entries-many s n 16) in
       rw (← entry-at n 16 index i) (entry-within n 16 index i, w .1, faulty-is code es index six two e)

@@ -27,10 +27,10 @@ faultIn code index e =
     let r : ℕ = firstFailing (passesBy code) (e .rules) in
     fault index r (toldBy code (getD (e .rules) r []))
 
--- carried along is, for 6, how many instructions the entries in front have, and else the least number that may come next
+-- carried along is, for 6, how many instructions there are with the entries in front, and else the least number that may come next
 unfoldable pub entryBy : ℕ → ℕ → Entry → Bool
 entryBy code carried e =
-    cond (eqb code 6) (ltb (carried + entryLength e + 5) tooMany)
+    cond (eqb code 6) (ltb (carried + entryLength e) tooMany)
     (cond (eqb code 2) (leb carried (e .number))
     (all (passesBy code) (e .rules)))
 

@@ -104,7 +104,7 @@ fn try_entry(s: &[u8], at: usize, carried: usize, code: u32) -> Turn
     if code == 6 {
         let count = carried + ruleset::body_length(rules, body.count) + 2;
         return Turn {
-            passes: count + 5 < 4097,
+            passes: count < 4097,
             carried: count,
             past: past,
         };
@@ -132,12 +132,12 @@ pub struct Found {
     pub at: usize,
 }
 
-// The first of n entries that does not pass.
-fn first_entry(s: &[u8], n: u32, code: u32) -> Found
-    requires { ⌜ (entriesPast (now s) n 16 ≤ length (now s)) × (length (now s) ≤ 1048576) ⌝ }
-    ensures { λ r. ⌜ (r .entry ≡ firstBy code 0 (entriesHere (now (s .entry)) n 16)) × (r .at ≡ entriesPast (now (s .entry)) (r .entry) 16) ⌝ }
+// The first of n entries that does not pass, with so much carried to the first.
+fn first_entry(s: &[u8], n: u32, code: u32, first: usize) -> Found
+    requires { ⌜ (entriesPast (now s) n 16 ≤ length (now s)) × (length (now s) ≤ 1048576) × (first ≤ 8) ⌝ }
+    ensures { λ r. ⌜ (r .entry ≡ firstBy code first (entriesHere (now (s .entry)) n 16)) × (r .at ≡ entriesPast (now (s .entry)) (r .entry) 16) ⌝ }
 {
-    let mut carried: usize = 0;
+    let mut carried = first;
     let mut at: usize = 16;
     let mut entry: u32 = 0;
     while entry < n {
@@ -176,7 +176,7 @@ fn in_rules(s: &[u8], n: u32, code: u32) -> Fault
     requires { ⌜ (entriesPast (now s) n 16 ≤ length (now s)) × (length (now s) ≤ 1048576) × (code ≡ 6 → ⊥) × (code ≡ 2 → ⊥) ⌝ }
     ensures { λ r. ⌜ r ≡ faultyRule (passesBy code) (toldBy code) (entriesHere (now (s .entry)) n 16) ⌝ }
 {
-    let found = first_entry(s, n, code);
+    let found = first_entry(s, n, code, 0);
     let entry = found.entry;
     if entry == n {
         return Fault {
@@ -206,7 +206,7 @@ pub fn locate(s: &[u8], code: u32) -> Fault
 {
     let n = bpf::u32_at(s, 12);
     if code == 2 {
-        return fault(first_entry(s, n, code).entry);
+        return fault(first_entry(s, n, code, 0).entry);
     }
     if code == 4 {
         return in_rules(s, n, code);
@@ -215,7 +215,9 @@ pub fn locate(s: &[u8], code: u32) -> Fault
         return in_rules(s, n, code);
     }
     if code == 6 {
-        return fault(first_entry(s, n, code).entry);
+        // the head in front of entries, and the return behind them
+        let around = head::head_length(bpf::u32_at(s, 0), 1) + 1;
+        return fault(first_entry(s, n, code, around).entry);
     }
     if code == 8 {
         return in_rules(s, n, code);

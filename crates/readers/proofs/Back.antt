@@ -10,7 +10,7 @@ use lib.Seq.{drop-at, drop-drop, getD-drop}
 use borrow.Author.Tests.{le-leb, eq-eqb, ne-eqb}
 use Rattle.definitions.specs.declared.Condition.{Condition}
 use Rattle.definitions.specs.Word.{bytesOf, numberAt}
-use Rattle.definitions.specs.Format.{architectureNumber, widthNumber, operatorNumber, joined, encodeCondition, encodeRule, encodeEntry, encode}
+use Rattle.definitions.specs.Format.{headNumber, widthNumber, operatorNumber, joined, encodeCondition, encodeRule, encodeEntry, encode}
 use Rattle.definitions.specs.Format.{ConditionInRange, conditionAt}
 use Rattle.definitions.specs.Parts.{conditionOf}
 use Rattle.definitions.specs.Writers.{headGood}
@@ -18,7 +18,7 @@ use Rattle.definitions.specs.Readers.{reaches, headOf, atEntry, atRule, entryOf
 use Rattle.theorems.specs.Written.{HeadBack, EntryBack, RuleBack, ConditionBack, AllRead}
 use Rattle.theorems.proofs.Words.{length-bytes, number-front}
 use Rattle.theorems.proofs.Taken.{action-small}
-use Rattle.theorems.proofs.Names.{width-back, operator-back, architecture-back, architecture-byte, mask-back}
+use Rattle.theorems.proofs.Names.{width-back, operator-back, architecture-back, head-byte, mask-back}
 use Rattle.theorems.proofs.Forms.{length-condition, length-rule, length-entry, short-count, zeros-front, value-front, mask-front}
 use Rattle.readers.proofs.Readers.{condition-at}
 
@@ -47,7 +47,7 @@ left-long s p at e h = let n = sym (length-drop at s) ∙ ap length e in omega a
 pub head-back : HeadBack
 unfolding headOf reaches headGood encode
 head-back rs g =
-    let a = bytesOf 4 (architectureNumber (rs .architecture)) in
+    let a = bytesOf 4 (headNumber (rs .architecture) (rs .nativeOnly)) in
     let d = bytesOf 4 (rs .mismatch) in
     let m = bytesOf 4 (rs .onMatch) in
     let n = bytesOf 4 (length (rs .entries)) in
@@ -56,7 +56,7 @@ head-back rs g =
     let long : length s ≡ 16 + length es = simp (length-append, length-bytes) (omega arith) in
     let size = g .size in
     let few-entries = short-count encodeEntry (λ e. omega (arith, length-entry e)) (rs .entries) in
-    let first : numberAt 4 s 0 ≡ architectureNumber (rs .architecture) = number-here-at 4 _ s (d ++ (m ++ (n ++ es))) 0 refl (architecture-byte (rs .architecture)) in
+    let first : numberAt 4 s 0 ≡ headNumber (rs .architecture) (rs .nativeOnly) = number-here-at 4 _ s (d ++ (m ++ (n ++ es))) 0 refl (head-byte (rs .architecture) (rs .nativeOnly)) in
     let second : numberAt 4 s 4 ≡ rs .mismatch = number-front-at 4 (rs .mismatch) s a (m ++ (n ++ es)) 0 4 refl (length-bytes 4 _) (action-small (rs .mismatch) (g .mismatch)) in
     let third : numberAt 4 s 8 ≡ rs .onMatch =
     number-front-at 4 (rs .onMatch) s (a ++ d) (n ++ es) 0 8 (simp append-assoc) (simp (length-append, length-bytes)) (action-small (rs .onMatch) (g .onMatch)) in
@@ -65,11 +65,11 @@ head-back rs g =
     let rest : drop 16 s ≡ es = drop-front s (a ++ (d ++ (m ++ n))) es 0 16 (simp append-assoc) (simp (length-append, length-bytes)) in
     let same : headOf s ≡ record {
       next = record { code = 0; at = 16; entries = length (rs .entries); rules = 0; conditions = 0 };
-      architecture = architectureNumber (rs .architecture);
+      architecture = headNumber (rs .architecture) (rs .nativeOnly);
       mismatch = rs .mismatch;
       «on_match» = rs .onMatch;
     } =
-    rw (le-leb (length s) 1048576 (omega arith), le-leb (0 + 16) (length s) (omega arith), first, second, third, fourth, architecture-back, g .mismatch, g .onMatch) in
+    rw (le-leb (length s) 1048576 (omega arith), le-leb (0 + 16) (length s) (omega arith), first, second, third, fourth, architecture-back (rs .architecture) (rs .nativeOnly), g .mismatch, g .onMatch) in
     rw same
     (record {
       code = refl;

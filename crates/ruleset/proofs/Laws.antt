@@ -12,22 +12,24 @@ use lib.ListN.{length, getD}
 use borrow.Author.Tests.{leb-true, leb-false, eqb-true, le-leb, lt-leb, eq-eqb, ne-eqb}
 use Rattle.definitions.specs.declared.Condition.{Condition}
 use Rattle.definitions.specs.Word.{numberAt, AreBytes}
-use Rattle.definitions.specs.RuleSet.{Architecture, Rule, Entry, isAction}
-use Rattle.definitions.specs.Format.{isThere, Read, then, check, times, architectureOf, widthOf, operatorOf, maskTaken, conditionAt, ruleAt, entryAt, read}
+use Rattle.definitions.specs.RuleSet.{Architecture, hasSecondTable, Rule, Entry, guarded, isAction}
+use Rattle.definitions.specs.Format.{isThere, Read, then, check, times, nativeOf, architectureOf, widthOf, operatorOf, maskTaken, conditionAt, ruleAt, entryAt, read}
 use Rattle.definitions.specs.Answer.{all, hasConditions, indexTaken, fitsWidth, ascending}
 use Rattle.definitions.specs.Emitted.{stepCode, stepDistance}
-use Rattle.theorems.specs.Length.{conditionsLength, sum, ruleLength, bodyLength, entryLength, filterLength}
+use Rattle.theorems.specs.Length.{conditionsLength, sum, ruleLength, bodyLength, entryLength, headLength, filterLength}
 use Rattle.theorems.proofs.Names.{operator-there}
 use Rattle.theorems.proofs.Lengths.{length-step}
 use Rattle.theorems.proofs.Tests.{check-some, then-some, some-same, both-true}
 use Rattle.bpf.proofs.Laws.{number-suc}
+use Rattle.head.specs.Named.{guardsBy}
+use Rattle.head.proofs.Laws.{architecture-agrees}
 use Rattle.condition.specs.Here.{conditionHere}
 use Rattle.condition.proofs.Agree.{condition-agrees}
 use Rattle.rule.specs.At.{conditionsHere, rulesHere}
 use Rattle.rule.proofs.Agree.{conditions-agree, rules-agree}
 use Rattle.ruleset.specs.declared.Scan.{Scan}
 use Rattle.ruleset.specs.declared.Turn.{Turn}
-use Rattle.ruleset.specs.Scan.{conditionTaken, notThere, Scanned, conditionsScan, ruleScan, ruleFrom, rulesScan, bodyOr, entryScan, entryFrom, ascendingFrom, entriesScan, plainThere, turnFrom, Turned, headTaken, filterOr, setScan, setFrom}
+use Rattle.ruleset.specs.Scan.{conditionTaken, notThere, Scanned, conditionsScan, ruleScan, ruleFrom, rulesScan, bodyOr, entryScan, entryFrom, ascendingFrom, entriesScan, plainThere, turnFrom, Turned, headTaken, setScan, setFrom}
 
 -- ---- whether a condition stands at a place
 
@@ -370,35 +372,31 @@ unfolding ascending ascendingFrom
 ascending-all [] = refl
 ascending-all (e ∷ es) = rw (le-leb 0 (e .number) (omega arith)) (ascending-behind e es)
 
-filter-count : (n : ℕ) (es : List Entry) → length es ≡ n → filterLength es ≡ filterOr n (sum entryLength es)
-unfolding filterLength
-filter-count n [] e = rw (eq-eqb n 0 (sym e))
-filter-count n (x ∷ es) e = rw (ne-eqb n 0 (omega arith)) (omega arith)
-
 -- the entries are there: what the set's scan is, from theirs
-entries-there : (size n : ℕ) (a : Architecture) (d m : ℕ) (r : Read (List Entry)) → length (r .value) ≡ n
-    → setScan size (check (eqb (r .past) size) (some (record { architecture = a; mismatch = d; onMatch = m; entries = r .value })))
+entries-there : (size front : ℕ) (a : Architecture) (native : Bool) (d m : ℕ) (r : Read (List Entry))
+    → headLength (native && hasSecondTable a) (length (r .value)) ≡ front
+    → setScan size (check (eqb (r .past) size) (some (record { architecture = a; nativeOnly = native; mismatch = d; onMatch = m; entries = r .value })))
     ≡ cond (eqb (r .past) size)
     (record {
       ok = true;
       past = size;
-      count = filterOr n (0 + sum entryLength (r .value));
+      count = front + (0 + sum entryLength (r .value)) + 1;
       filled = all (λ (e : Entry). all hasConditions (e .rules)) (r .value);
       indexed = all (λ (e : Entry). all (all indexTaken) (e .rules)) (r .value);
       fitted = all (λ (e : Entry). all (all fitsWidth) (e .rules)) (r .value);
       ascending = ascendingFrom 0 (r .value);
     })
     notThere
-unfolding setScan
-entries-there size n a d m r e =
-    rw (zero-add (sum entryLength (r .value)), ← filter-count n (r .value) e, ← ascending-all (r .value)) (go (eqb (r .past) size))
+unfolding setScan filterLength guarded
+entries-there size front a native d m r e =
+    rw (zero-add (sum entryLength (r .value)), ← e, ← ascending-all (r .value)) (go (eqb (r .past) size))
   where
-    go : (t : Bool) → setScan size (check t (some (record { architecture = a; mismatch = d; onMatch = m; entries = r .value })))
+    go : (t : Bool) → setScan size (check t (some (record { architecture = a; nativeOnly = native; mismatch = d; onMatch = m; entries = r .value })))
         ≡ cond t
         (record {
           ok = true;
           past = size;
-          count = filterLength (r .value);
+          count = headLength (native && hasSecondTable a) (length (r .value)) + sum entryLength (r .value) + 1;
           filled = all (λ (e : Entry). all hasConditions (e .rules)) (r .value);
           indexed = all (λ (e : Entry). all (all indexTaken) (e .rules)) (r .value);
           fitted = all (λ (e : Entry). all (all fitsWidth) (e .rules)) (r .value);
@@ -408,14 +406,14 @@ entries-there size n a d m r e =
     go true = refl
     go false = refl
 
-set-by : (size n : ℕ) (x : Option (Read (List Entry))) → ((r : Read (List Entry)) → x ≡ some r → length (r .value) ≡ n)
-    → (A B C D : Bool) (arch : Option Architecture) (d m : ℕ)
-    → setScan size (check (A && B && C && D) (then arch (λ a. then x (λ r. check (eqb (r .past) size) (some (record { architecture = a; mismatch = d; onMatch = m; entries = r .value }))))))
+set-by : (size front : ℕ) (x : Option (Read (List Entry))) (A B C D : Bool) (arch : Option Architecture) (native : Bool) (d m : ℕ)
+    → ((a : Architecture) (r : Read (List Entry)) → arch ≡ some a → x ≡ some r → headLength (native && hasSecondTable a) (length (r .value)) ≡ front)
+    → setScan size (check (A && B && C && D) (then arch (λ a. then x (λ r. check (eqb (r .past) size) (some (record { architecture = a; nativeOnly = native; mismatch = d; onMatch = m; entries = r .value }))))))
     ≡ cond A (cond B (cond (isThere arch && (C && D)) (cond (entriesScan 0 true true true true 0 x .ok) (cond (eqb (entriesScan 0 true true true true 0 x .past) size)
     (record {
       ok = true;
       past = size;
-      count = filterOr n (entriesScan 0 true true true true 0 x .count);
+      count = front + entriesScan 0 true true true true 0 x .count + 1;
       filled = entriesScan 0 true true true true 0 x .filled;
       indexed = entriesScan 0 true true true true 0 x .indexed;
       fitted = entriesScan 0 true true true true 0 x .fitted;
@@ -423,23 +421,28 @@ set-by : (size n : ℕ) (x : Option (Read (List Entry))) → ((r : Read (List En
     })
     notThere) notThere) notThere) notThere) notThere
 unfolding setScan entriesScan
-set-by size n x l false B C D arch d m = refl
-set-by size n x l true false C D arch d m = refl
-set-by size n x l true true false D none d m = refl
-set-by size n x l true true false D (some a) d m = refl
-set-by size n x l true true true false none d m = refl
-set-by size n x l true true true false (some a) d m = refl
-set-by size n x l true true true true none d m = refl
-set-by size n none l true true true true (some a) d m = refl
-set-by size n (some r) l true true true true (some a) d m = entries-there size n a d m r (l r refl)
+set-by size front x false B C D arch native d m l = refl
+set-by size front x true false C D arch native d m l = refl
+set-by size front x true true false D none native d m l = refl
+set-by size front x true true false D (some a) native d m l = refl
+set-by size front x true true true false none native d m l = refl
+set-by size front x true true true false (some a) native d m l = refl
+set-by size front x true true true true none native d m l = refl
+set-by size front none true true true true (some a) native d m l = refl
+set-by size front (some r) true true true true (some a) native d m l = entries-there size front a native d m r (l a r refl refl)
+
+-- how many instructions stand in front of the entries
+abbrev pub frontOf : List ℕ → ℕ
+frontOf s = headLength (guardsBy (numberAt 4 s 0)) (numberAt 4 s 12)
 
 pub set-from : (s : List ℕ)
     → setScan (length s) (read s)
-    ≡ setFrom (length s) (numberAt 4 s 12) (headTaken s) (entriesScan 0 true true true true 0 (times (entryAt s) (numberAt 4 s 12) 16))
-unfolding read setFrom headTaken
+    ≡ setFrom (length s) (frontOf s) (headTaken s) (entriesScan 0 true true true true 0 (times (entryAt s) (numberAt 4 s 12) 16))
+unfolding read setFrom headTaken guardsBy
 set-from s =
-    set-by (length s) (numberAt 4 s 12) (times (entryAt s) (numberAt 4 s 12) 16) (λ r e. times-length (entryAt s) (numberAt 4 s 12) 16 e)
-    (leb (length s) 1048576) (leb 16 (length s)) (isAction (numberAt 4 s 4)) (isAction (numberAt 4 s 8)) (architectureOf (numberAt 4 s 0)) (numberAt 4 s 4) (numberAt 4 s 8)
+    set-by (length s) (frontOf s) (times (entryAt s) (numberAt 4 s 12) 16)
+    (leb (length s) 1048576) (leb 16 (length s)) (isAction (numberAt 4 s 4)) (isAction (numberAt 4 s 8)) (architectureOf (numberAt 4 s 0)) (nativeOf (numberAt 4 s 0)) (numberAt 4 s 4) (numberAt 4 s 8)
+    (λ a r p q. rw (architecture-agrees (numberAt 4 s 0) a p, times-length (entryAt s) (numberAt 4 s 12) 16 q))
 
 -- ---- what a walk returns
 
@@ -450,11 +453,3 @@ broken-off from size p q = record { same = p ∙ sym q; inside = λ e. absurd (l
 -- whether what was found is of the format, from what was returned
 pub ok-of : {found r : Scan} {t : Bool} → r ≡ found → r .ok ≡ t → found .ok ≡ t
 ok-of p e = sym (ap (λ (x : Scan). x .ok) p) ∙ e
-
--- four, or five around what the entries have
-pub filter-small : (n entries : ℕ) → filterOr n entries ≤ 5 + entries
-filter-small n entries = go (eqb n 0)
-  where
-    go : (t : Bool) → cond t 4 (entries + 5) ≤ 5 + entries
-    go true = omega arith
-    go false = omega arith

@@ -139,9 +139,6 @@ pub record Turned (s : List ℕ) (n at least : ℕ) (r : Turn) : Type 0 where
 unfoldable pub headTaken : List ℕ → Bool
 headTaken s = isThere (architectureOf (numberAt 4 s 0)) && (isAction (numberAt 4 s 4) && isAction (numberAt 4 s 8))
 
-abbrev pub filterOr : ℕ → ℕ → ℕ
-filterOr n entries = cond (eqb n 0) 4 (entries + 5)
-
 -- the whole: what decides the answers 1, 2, 4, 5, 8, and the number of instructions
 unfoldable pub setScan : ℕ → Option RuleSet → Scan
 setScan size none = notThere
@@ -149,18 +146,18 @@ setScan size (some rs) =
     record {
       ok = true;
       past = size;
-      count = filterLength (rs .entries);
+      count = filterLength rs;
       filled = rulesFilled rs;
       indexed = indicesTaken rs;
       fitted = widthsFit rs;
       ascending = ascending (rs .entries);
     }
 
--- the whole, from the scan of its n entries
+-- the whole, from the scan of its entries, which so many instructions stand in front of
 unfoldable pub setFrom : ℕ → ℕ → Bool → Scan → Scan
-setFrom size n head c =
+setFrom size front head c =
     cond (leb size 1048576) (cond (leb 16 size) (cond head (cond (c .ok) (cond (eqb (c .past) size)
-    (record { ok = true; past = size; count = filterOr n (c .count); filled = c .filled; indexed = c .indexed; fitted = c .fitted; ascending = c .ascending })
+    (record { ok = true; past = size; count = front + c .count + 1; filled = c .filled; indexed = c .indexed; fitted = c .fitted; ascending = c .ascending })
     notThere) notThere) notThere) notThere) notThere
 
 -- what is refused, from the scan of the whole and whether both actions are one
@@ -176,4 +173,4 @@ refusalFrom c same =
 -- what is said of a set, by the rule set that is read from it
 unfoldable pub judged : Option RuleSet → Judged
 judged none = record { code = 1; count = 0 }
-judged (some rs) = record { code = refusal rs; count = filterLength (rs .entries) }
+judged (some rs) = record { code = refusal rs; count = filterLength rs }

@@ -8,8 +8,8 @@ ghost use lib.ListN.{length};
 ghost use Rattle.definitions.specs.Word.{numberAt};
 ghost use Rattle.definitions.specs.RuleSet.{isAction};
 ghost use Rattle.definitions.specs.Answer.{fitsWidth};
-ghost use Rattle.definitions.specs.Format.{architectureOf, widthOf, isThere, times, conditionAt, ruleAt, entryAt, read};
-ghost use Rattle.ruleset.specs.Scan.{notThere, Scanned, conditionsScan, ruleScan, rulesScan, bodyOr, entryScan, plainThere, Turned, entriesScan, headTaken, filterOr, setScan, refusalFrom, judged};
+ghost use Rattle.definitions.specs.Format.{widthOf, isThere, times, conditionAt, ruleAt, entryAt, read};
+ghost use Rattle.ruleset.specs.Scan.{notThere, Scanned, conditionsScan, ruleScan, rulesScan, bodyOr, entryScan, plainThere, Turned, entriesScan, headTaken, setScan, refusalFrom, judged};
 use condition::condition_here;
 use definitions::Condition;
 use definitions::Width;
@@ -58,19 +58,6 @@ pub fn width_known(width: u8) -> bool
         8 => true,
         _ => false,
     }
-}
-
-// Whether a number stands for an architecture.
-pub fn architecture_known(architecture: u32) -> bool
-    ensures { λ r. ⌜ r ≡ isThere (architectureOf architecture) ⌝ }
-{
-    if architecture == 1 {
-        return true;
-    }
-    if architecture == 2 {
-        return true;
-    }
-    architecture == 3
 }
 
 // Whether a condition of the format stands at a place.
@@ -419,24 +406,13 @@ fn head_there(s: &[u8]) -> bool
     requires { ⌜ 16 ≤ length (now s) ⌝ }
     ensures { λ r. ⌜ r ≡ headTaken (now (s .entry)) ⌝ }
 {
-    if !architecture_known(bpf::u32_at(s, 0)) {
+    if !head::architecture_known(bpf::u32_at(s, 0)) {
         return false;
     }
     if !is_action(bpf::u32_at(s, 4)) {
         return false;
     }
     is_action(bpf::u32_at(s, 8))
-}
-
-// The four instructions of a filter for no numbers, or the five around those for the entries.
-fn filter_length(n: u32, entries: usize) -> usize
-    requires { ⌜ entries ≤ 1048576 ⌝ }
-    ensures { λ r. ⌜ r ≡ filterOr n entries ⌝ }
-{
-    if n == 0 {
-        return 4;
-    }
-    entries + 5
 }
 
 // The whole walk.
@@ -461,10 +437,12 @@ fn scan_set(s: &[u8]) -> Scan
     if entries.past != size {
         return not_there();
     }
+    let head = head::head_length(bpf::u32_at(s, 0), n);
+    // the head in front of the entries, and the return behind them
     Scan {
         ok: true,
         past: size,
-        count: filter_length(n, entries.count),
+        count: head + entries.count + 1,
         filled: entries.filled,
         indexed: entries.indexed,
         fitted: entries.fitted,

@@ -17,6 +17,7 @@ use Rattle.definitions.specs.Format.{Each}
 use Rattle.definitions.specs.Emitted.{jumpBy, return, reach, highPart, lowPart, onlyQword, conditionCode, helpers, near, stepCode, stepDistance, conditionsCode, distance}
 use Rattle.theorems.proofs.Steps.{run-jump, run-return, skip1, skip2, skip-one}
 use Rattle.theorems.proofs.Conditions.{Goes, condition-right, cond-and, cond-or}
+use Rattle.theorems.proofs.Heads.{cond-returns}
 use Rattle.theorems.proofs.Rules.{IndexTaken, jump-over}
 use Rattle.theorems.proofs.Right.{EntryTaken}
 use Rattle.search.specs.Search.{bodies, toMatch, toRules, Span, entrySpans, spans, ground}
@@ -84,10 +85,6 @@ module _ (c : Call) (m : ℕ) where
   rules-right n [] rest g h s = h s
   rules-right n (r ∷ rs) rest g h s =
       rw (append-assoc, cond-or) (rule-right (cond (anyHolds c rs) (returns m) n) r (ruleBodies m rs ++ rest) (g .0) (rules-right n rs rest (g .1) h) s)
-
-pub cond-returns : (b : Bool) (m d : ℕ) → cond b (returns m) (returns d) ≡ returns (cond b m d)
-cond-returns true m d = refl
-cond-returns false m d = refl
 
 -- ---- it asks for nothing that was loaded before
 

@@ -1,6 +1,6 @@
 -- SEARCHED: whoever answers by the search form's length, leaves the buffer where it refuses, and else writes the search form at its start,
 -- keeps every promise of `Searched`.
-use mathlib.Core.Path.{_≡_, refl}
+use mathlib.Core.Path.{_≡_}
 use mathlib.Core.Bool.{true}
 use mathlib.Core.List.{List, _++_}
 use Prim.Native.Nat.{ℕ, _*_, _%_, _≤_}
@@ -9,9 +9,9 @@ use lib.ListN.{length, drop}
 use borrow.Author.Tests.{eq-eqb}
 use Rattle.definitions.specs.declared.Answer.{Answer}
 use Rattle.definitions.specs.Word.{AreBytes}
-use Rattle.definitions.specs.Machine.{filterBytes, filterOf, Call, returns, runs, steps}
+use Rattle.definitions.specs.Machine.{filterBytes, filterOf}
 use Rattle.definitions.specs.Kernel.{acceptsBytes}
-use Rattle.definitions.specs.RuleSet.{RuleSet, meaning}
+use Rattle.definitions.specs.RuleSet.{RuleSet}
 use Rattle.definitions.specs.Format.{InRange, read}
 use Rattle.definitions.specs.Answer.{ascending, indicesTaken, noFault, answerBy}
 use Rattle.definitions.specs.Compiled.{Searched}

@@ -1,20 +1,20 @@
 -- Code of the shape that `theorems` keeps of emitted code passes the kernel's checks; and a rule's code has that shape in front of any
 -- code, because it has it in the emitted filter of that rule alone.
 use mathlib.Core.Path.{_≡_, refl, ap, subst}
-use mathlib.Core.Bool.{Bool, true}
+use mathlib.Core.Bool.{true, false}
 use mathlib.Core.List.{List, [], _∷_, _++_}
 use Prim.Native.Nat.{ℕ, _+_, _-_, _^_, _≤_, _<_}
 use native.Mathlib.Omega.{arith}
 use lib.ListN.{length, length-append}
-use borrow.Author.Tests.{eq-eqb, lt-ltb, le-leb}
+use borrow.Author.Tests.{le-leb}
 use Rattle.definitions.specs.declared.Instruction.{Instruction}
 use Rattle.definitions.specs.Machine.{Kind, ldAbs, ldLen, ldImm, ldMem, ldxLen, ldxImm, ldxMem, st, stx, tax, txa, neg, ja, retK, retA, unknown, alu, jump, codes, kindIn, kindOf}
-use Rattle.definitions.specs.Kernel.{takenAs, eachTaken, effectAs, effectOf, endsInReturn, Words, noWord, everyWord, scratchNext, scratchTaken, accepts}
-use Rattle.definitions.specs.RuleSet.{Rule, Entry, RuleSet}
+use Rattle.definitions.specs.Kernel.{endsInReturn, noWord, everyWord, accepts}
+use Rattle.definitions.specs.RuleSet.{Rule, Entry, RuleSet, guarded}
 use Rattle.definitions.specs.Format.{joined, encodeCondition, encodeRule, encodeEntry, encode, Each, ConditionInRange, EntryInRange, InRange}
 use Rattle.definitions.specs.Answer.{indexTaken, all, indicesTaken}
 use Rattle.definitions.specs.Word.{bytesOf}
-use Rattle.definitions.specs.Emitted.{return, conditionsCode, ruleCode, rulesCode, bodyCode, entryCode, entriesCode, numbersCode, emitted}
+use Rattle.definitions.specs.Emitted.{return, conditionsCode, ruleCode, rulesCode, bodyCode, entryCode, entriesCode, numbersCode, numberCode, headCode, emitted}
 use Rattle.theorems.specs.Shape.{LandsAs, Shaped}
 use Rattle.theorems.proofs.Tests.{both-true, true-both}
 use Rattle.theorems.proofs.Taken.{each-taken, scratch-taken, emitted-sound}
@@ -70,6 +70,7 @@ pub record Small (qs : Rule) : Type 0 where
 abbrev only : RuleSet → Rule → RuleSet
 only rs qs = record {
   architecture = rs .architecture;
+  nativeOnly = false;
   mismatch = rs .mismatch;
   onMatch = rs .onMatch;
   entries = record { number = 0; rules = qs ∷ [] } ∷ [];
@@ -91,7 +92,7 @@ behind (x ∷ a) i j = ap (λ (p : List Instruction). x ∷ p) (behind a i j)
 
 only-shaped : (rs : RuleSet) (qs : Rule) → InRange rs → Small qs
     → Shaped (conditionsCode qs 1 ++ (return (rs .onMatch) ∷ return (rs .mismatch) ∷ return (rs .mismatch) ∷ []))
-unfolding emitted numbersCode entriesCode entryCode bodyCode rulesCode ruleCode Shaped
+unfolding emitted headCode numberCode guarded numbersCode entriesCode entryCode bodyCode rulesCode ruleCode Shaped
 only-shaped rs qs r s =
     let h = emitted-sound (only rs qs) (only-ranged rs qs r s) (true-both (true-both (s .indices) refl) refl) .shaped in
     subst Shaped (behind (conditionsCode qs 1) (return (rs .onMatch)) (return (rs .mismatch))) (h .2 .2 .2 .2 .2 .2 .2)

@@ -2,13 +2,13 @@
 use mathlib.Core.Path.{_≡_, refl, ap}
 use mathlib.Core.Bool.{Bool, cond}
 use mathlib.Core.List.{List, [], _∷_, _++_}
-use Prim.Native.Nat.{ℕ, suc, _+_, _-_, _*_, _≤_}
+use Prim.Native.Nat.{ℕ, suc, _+_, _*_, _≤_}
 use native.Mathlib.Omega.{arith}
 use lib.ListN.{length, length-append}
 use borrow.Author.Tests.{eq-eqb}
 use Rattle.definitions.specs.RuleSet.{Rule, Entry}
 use Rattle.definitions.specs.Emitted.{return, ruleCode, rulesCode, bodyCode, entryCode, entriesCode, numbersCode, emitted}
-use Rattle.search.specs.Search.{bodies, Destination, toMatch, toRules, Span, alone, plainSpans, entrySpans, spans, ground, tree, searchNumbers, searchForm}
+use Rattle.search.specs.Search.{bodies, Destination, toMatch, toRules, Span, alone, plainSpans, entrySpans, spans, chain, blockIf, grow, away, nearReturn, plantLeaf, openBlock, plant, ground, tree, planted, searchForm}
 use Rattle.definitions.specs.Emitted.{ruleBody, ruleBodies, entryBody}
 use Rattle.search.specs.Statements.{Shorter}
 use Rattle.search.proofs.Spans.{plain-case, spans-some}
@@ -73,10 +73,16 @@ ground-code : (m d : ℕ) (es : List Entry) → ground m d es .code ≡ bodies m
 unfolding ground
 ground-code m d es = refl
 
-numbers-shorter : (m d : ℕ) (es : List Entry) → length (searchNumbers m d es) ≤ length (numbersCode m d es)
-unfolding searchNumbers numbersCode tree
-numbers-shorter m d [] = omega arith
-numbers-shorter m d (e ∷ es) =
+-- with nothing listed there is one return
+pub planted-none : (m d : ℕ) → planted m d [] ≡ return d ∷ []
+unfolding planted tree grow blockIf chain spans ground bodies plant plantLeaf openBlock nearReturn away
+planted-none m d = refl
+
+planted-shorter : (m d : ℕ) (es : List Entry) → length (planted m d es) ≤ length (numbersCode m d es)
+unfolding numbersCode
+planted-shorter m d [] = rw planted-none (unfold entriesCode in omega arith)
+planted-shorter m d (e ∷ es) =
+    unfold planted tree in
     let x = tree-sized m d (spans m d (e ∷ es)) (ground m d (e ∷ es)) (ground-rooted m d (e ∷ es)) in
     rw (length-append (entriesCode m d (e ∷ es)) (return d ∷ []))
     (omega (
@@ -90,4 +96,4 @@ numbers-shorter m d (e ∷ es) =
 
 pub shorter : Shorter
 unfolding searchForm emitted
-shorter rs = let x = numbers-shorter (rs .onMatch) (rs .mismatch) (rs .entries) in omega arith
+shorter rs = simp length-append (omega (arith, planted-shorter (rs .onMatch) (rs .mismatch) (rs .entries)))

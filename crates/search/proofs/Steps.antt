@@ -1,16 +1,20 @@
--- One instruction at a time: how many instructions are run from it on. And what a run does in code that has other code in front.
+-- One instruction at a time: how many instructions are run from it on. And what a run does in code that has other code in front, and what
+-- the head takes that every filter begins with.
 use mathlib.Core.Path.{_≡_, refl, ap}
-use mathlib.Core.Bool.{Bool, true, false, cond}
+use mathlib.Core.Bool.{Bool, true, false, cond, not}
 use mathlib.Core.List.{List, [], _∷_, _++_}
 use mathlib.Core.Option.{Option, none, some}
-use Prim.Native.Nat.{ℕ, zero, suc, _+_}
+use Prim.Native.Nat.{ℕ, zero, suc, _+_, _≤_}
 use native.Mathlib.Omega.{arith}
 use lib.Dec.{eqb, leb, ltb}
+use lib.Bits.{bitAnd}
 use lib.ListN.{length}
 use Rattle.definitions.specs.declared.Instruction.{Instruction}
-use Rattle.definitions.specs.Machine.{Call, State, Result, returns, stuck, Step, stop, next, setA, start, fetch, codes, kindIn, kindOf, intoA, testHolds, stepAs, step, run, visits}
-use Rattle.definitions.specs.Emitted.{load, jumpBy, ifEqual, return}
-use Rattle.theorems.proofs.Steps.{run-equal, run-greater, run-at-least}
+use Rattle.definitions.specs.Machine.{Call, State, Result, returns, stuck, Step, stop, next, setA, start, fetch, codes, kindIn, kindOf, intoA, testHolds, stepAs, step, run, visits, steps}
+use Rattle.definitions.specs.RuleSet.{architectureWord, RuleSet, secondTable, cancelled, guarded}
+use Rattle.definitions.specs.Emitted.{load, jumpBy, ifEqual, ifAnyBit, return, guard, numberCode, headCode, headed}
+use Rattle.definitions.specs.Compiled.{guardSteps}
+use Rattle.theorems.proofs.Steps.{run-equal, run-greater, run-at-least, fetch-number, fetch-architecture}
 use Rattle.search.specs.Search.{Comparison, equal, atLeast, above, comparing}
 use Rattle.search.proofs.Grow.{passes}
 
@@ -43,7 +47,7 @@ module _ (p : List Instruction) (s : State) (c : Call) where
   unfolding visits step stepAs kindOf kindIn codes
   count-return k = refl
 
-  pub count-load : (k : ℕ) {w : ℕ} → fetch c k ≡ some w → count 0 (load k ∷ p) s c ≡ suc (count 0 p (setA w s) c)
+  count-load : (k : ℕ) {w : ℕ} → fetch c k ≡ some w → count 0 (load k ∷ p) s c ≡ suc (count 0 p (setA w s) c)
   unfolding visits step stepAs kindOf kindIn codes intoA
   count-load k {w} e = rw (e, visits, intoA) (ap suc (shift 1 0 0 p (setA w s) c))
 
@@ -57,12 +61,13 @@ module _ (p : List Instruction) (s : State) (c : Call) where
   count-compare atLeast k a b = ap suc (branch (leb k (s .A)) a b)
   count-compare above k a b = ap suc (branch (ltb k (s .A)) a b)
 
-  pub count-equal : (k a b : ℕ) → count 0 (ifEqual k a b ∷ p) s c ≡ suc (cond (eqb (s .A) k) (count a p s c) (count b p s c))
+  count-equal : (k a b : ℕ) → count 0 (ifEqual k a b ∷ p) s c ≡ suc (cond (eqb (s .A) k) (count a p s c) (count b p s c))
   unfolding comparing passes
   count-equal k a b = count-compare equal k a b
 
-  pub count-skip : (i : Instruction) → count 1 (i ∷ p) s c ≡ count 0 p s c
-  count-skip i = count-suc i 0
+  count-any-bit : (k a b : ℕ) → count 0 (ifAnyBit k a b ∷ p) s c ≡ suc (cond (not (eqb (bitAnd (s .A) k) 0)) (count a p s c) (count b p s c))
+  unfolding visits step stepAs kindOf kindIn codes testHolds
+  count-any-bit k a b = ap suc (branch (not (eqb (bitAnd (s .A) k) 0)) a b)
 
   pub run-compare : (t : Comparison) (k a b : ℕ) → run 0 (comparing t k a b ∷ p) s c ≡ cond (passes t k (s .A)) (run a p s c) (run b p s c)
   unfolding comparing passes
@@ -117,3 +122,33 @@ over-over h (more i k) = more i (over-over h k)
 pub over-append : (a p : List Instruction) → Over p (a ++ p)
 over-append [] p = same
 over-append (i ∷ a) p = more i (over-append a p)
+
+-- ---- behind a head: what a head takes beside code that takes at most n instructions
+
+module _ (p : List Instruction) (c : Call) (n : ℕ) (least : 1 ≤ n) (numbered : count 0 p (setA (c .number) start) c ≤ n) where
+  guard-count : count 0 (guard ++ p) (setA (c .number) start) c ≤ n + cond (eqb (bitAnd (c .number) secondTable) 0) 1 2
+  guard-count =
+      rw (count-any-bit, count-suc, count-equal, count-suc, count-return) (go (eqb (bitAnd (c .number) secondTable) 0) (eqb (c .number) cancelled) _ numbered)
+    where
+      go : (native last : Bool) (k : ℕ) → k ≤ n → suc (cond (not native) (suc (cond last k 1)) k) ≤ n + cond native 1 2
+      go true last k h = omega arith
+      go false true k h = omega arith
+      go false false k h = omega arith
+
+  number-count : (guards : Bool) (l : ℕ) → (l ≡ 0 → count 0 p (setA (c .architecture) start) c ≤ n)
+      → count 0 (numberCode guards l ++ p) (setA (c .architecture) start) c ≤ n + 1 + cond guards (cond (eqb (bitAnd (c .number) secondTable) 0) 1 2) 0
+  unfolding numberCode
+  number-count true l named = rw (count-load _ (setA (c .architecture) start) c 0 (fetch-number c)) (omega (arith, guard-count))
+  number-count false zero named = omega (arith, named refl)
+  number-count false (suc l) named = rw (count-load _ (setA (c .architecture) start) c 0 (fetch-number c)) (omega (arith, numbered))
+
+  pub head-count : (rs : RuleSet) → (length (rs .entries) ≡ 0 → count 0 p (setA (c .architecture) start) c ≤ n)
+      → steps (headed rs p) c ≤ n + 3 + guardSteps rs c
+  unfolding headCode
+  head-count rs named =
+      rw (count-load _ start c 4 (fetch-architecture c), count-equal, count-suc, count-return)
+      (go (eqb (c .architecture) (architectureWord (rs .architecture))) _ _ (number-count (guarded rs) (length (rs .entries)) named))
+    where
+      go : (own : Bool) (k g : ℕ) → k ≤ n + 1 + g → suc (suc (cond own k 1)) ≤ n + 3 + g
+      go true k g h = omega arith
+      go false k g h = omega arith

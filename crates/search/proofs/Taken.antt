@@ -9,13 +9,13 @@ use lib.ListN.{length, take, drop, length-append}
 use Rattle.definitions.specs.declared.Instruction.{Instruction}
 use Rattle.definitions.specs.Machine.{codes, kindIn, kindOf}
 use Rattle.definitions.specs.Kernel.{effectAs, effectOf, isReturn, endsInReturn}
-use Rattle.definitions.specs.RuleSet.{Rule, Entry, RuleSet, architectureWord, killProcess}
+use Rattle.definitions.specs.RuleSet.{Rule, Entry, RuleSet}
 use Rattle.definitions.specs.Format.{Each, InRange}
 use Rattle.definitions.specs.Answer.{indicesTaken}
-use Rattle.definitions.specs.Emitted.{load, jumpBy, ifEqual, ifGreater, ifAtLeast, return, conditionsCode, emitted}
+use Rattle.definitions.specs.Emitted.{jumpBy, ifEqual, ifGreater, ifAtLeast, return, conditionsCode}
 use Rattle.theorems.specs.Shape.{LandsAs, Shaped}
-use Rattle.theorems.proofs.Taken.{Sound, action-small, emitted-sound}
-use Rattle.search.specs.Search.{jumpReach, blockReach, bodies, Destination, toMismatch, toMatch, toRules, Span, plainSpans, entrySpans, spans, Comparison, equal, atLeast, above, Tree, leaf, node, block, endsBy, upTo, link, chain, lowest, middle, fitsBlock, blockIf, grow, Form, Spot, away, nearPlace, nearReturn, plantLeaf, openBlock, comparing, compareFirst, plant, ground, tree, searchNumbers, searchForm}
+use Rattle.theorems.proofs.Taken.{Sound, action-small, headed-sound}
+use Rattle.search.specs.Search.{jumpReach, blockReach, bodies, Destination, toMismatch, toMatch, toRules, Span, plainSpans, entrySpans, spans, Comparison, equal, atLeast, above, Tree, leaf, node, block, endsBy, upTo, link, chain, lowest, middle, fitsBlock, blockIf, grow, Form, Spot, away, nearPlace, nearReturn, plantLeaf, openBlock, comparing, compareFirst, plant, ground, tree, planted, searchForm}
 use Rattle.definitions.specs.Emitted.{ruleBody, ruleBodies, entryBody}
 use Rattle.search.specs.Statements.{Taken}
 use Rattle.search.proofs.Cases.{cond-case}
@@ -327,52 +327,28 @@ module _ (rs : RuleSet) (ranged : InRange rs) where
       entry-fine (length (bodies m d (e ∷ es))) (e .number) (e .rules) (spans m d es) (omega arith) (s .0 .0)
       (spans-more (length (bodies m d es)) (length (bodies m d (e ∷ es))) (spans m d es) (omega arith) (spans-fine es (s .1)))
 
-  numbers-firm : (es : List Entry) → Each SmallEntry es → Firm (searchNumbers m d es)
-  unfolding searchNumbers Shaped LandsAs kindOf kindIn codes endsInReturn effectOf effectAs isReturn
-  numbers-firm [] s = record { shaped = λ l. (tt, (omega arith, omega arith, omega arith, hd), tt); ends = refl }
-  numbers-firm (e ∷ es) s =
-      let x = laid .stands .firm in
-      record {
-        shaped = λ l. ((refl, omega arith), (omega arith, omega arith, omega arith, omega arith), x .shaped (omega arith));
-        ends = ends-cons (load 0) (plant m d (tree m d (e ∷ es)) (ground m d (e ∷ es)) .code) (x .ends);
-      }
-    where
-      b : Sound 0 (bodies m d (e ∷ es))
-      b = bodies-sound (e ∷ es) s
+  planted-laid : (es : List Entry) → Each SmallEntry es → Laid (ground m d es) (plant m d (tree m d es) (ground m d es))
+  planted-laid es s =
+      let b = bodies-sound es s in
+      plant-laid m d hm hd (tree m d es) (ground m d es) (unfold ground tree in tree-fine (length (bodies m d es)) (spans m d es) (spans-fine es s))
+      (unfold ground in record {
+        firm = record { shaped = λ l. b .shaped; ends = b .ends };
+        matchReturn = omega arith;
+        mismatchReturn = b .long;
+      })
 
-      laid : Laid (ground m d (e ∷ es)) (plant m d (tree m d (e ∷ es)) (ground m d (e ∷ es)))
-      laid =
-          plant-laid m d hm hd (tree m d (e ∷ es)) (ground m d (e ∷ es))
-          (unfold ground tree in tree-fine (length (bodies m d (e ∷ es))) (spans m d (e ∷ es)) (spans-fine (e ∷ es) s))
-          (unfold ground in record {
-            firm = record { shaped = λ l. b .shaped; ends = b .ends };
-            matchReturn = omega arith;
-            mismatchReturn = b .long;
-          })
-
-some-ends : (p : List Instruction) → endsInReturn p ≡ true → 1 ≤ length p
-unfolding endsInReturn
-some-ends [] h = absurd (let z : _≡_ {A = ℕ} 0 1 = cc in omega arith)
-some-ends (i ∷ p) h = omega arith
-
--- the emitted form has the same word
-architecture-small : (rs : RuleSet) → InRange rs → indicesTaken rs ≡ true → architectureWord (rs .architecture) < 2 ^ 32
-unfolding emitted Shaped
-architecture-small rs r t = emitted-sound rs r t .shaped .2 .1 .3
+  planted-sound : (es : List Entry) → Each SmallEntry es → length (planted m d es) < 2 ^ 32 → Sound 0 (planted m d es)
+  unfolding planted
+  planted-sound es s l =
+      let x = planted-laid es s in
+      record { shaped = x .stands .firm .shaped l; ends = x .stands .firm .ends; long = omega (arith, x .near .pos, x .near .inside) }
 
 pub form-sound : (rs : RuleSet) → InRange rs → indicesTaken rs ≡ true → length (searchForm rs) ≤ 4096 → Sound 0 (searchForm rs)
-unfolding searchForm Shaped LandsAs kindOf kindIn codes
+unfolding searchForm
 form-sound rs r t l =
-    let x = numbers-firm rs r (rs .entries) (set-small rs r t) in
-    let p : List Instruction = searchNumbers (rs .onMatch) (rs .mismatch) (rs .entries) in
-    let n : 1 ≤ length p = some-ends p (x .ends) in
-    let a = architecture-small rs r t in
-    let s = x .shaped (omega arith) in
-    record {
-      shaped = search arith depth 16;
-      ends = ends-append (load 4 ∷ ifEqual (architectureWord (rs .architecture)) 1 0 ∷ return killProcess ∷ []) p (x .ends);
-      long = omega arith;
-    }
+    let p : List Instruction = planted (rs .onMatch) (rs .mismatch) (rs .entries) in
+    let n = simp length-append at l in
+    headed-sound rs p (planted-sound rs r (rs .entries) (set-small rs r t) (omega arith))
 
 pub taken : Taken
 taken rs r t l = let x = form-sound rs r t l in shaped-taken (searchForm rs) (x .shaped) (x .ends) (x .long) l

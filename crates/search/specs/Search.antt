@@ -10,8 +10,8 @@ use mathlib.Core.List.{List, [], _∷_, _++_}
 use lib.Dec.{eqb, leb, ltb}
 use lib.ListN.{length, take, drop}
 use Rattle.definitions.specs.declared.Instruction.{Instruction}
-use Rattle.definitions.specs.RuleSet.{Rule, Entry, RuleSet, architectureWord, killProcess}
-use Rattle.definitions.specs.Emitted.{load, jumpBy, ifEqual, ifGreater, ifAtLeast, return, entryBody}
+use Rattle.definitions.specs.RuleSet.{Rule, Entry, RuleSet}
+use Rattle.definitions.specs.Emitted.{jumpBy, ifEqual, ifGreater, ifAtLeast, return, headed, entryBody}
 
 -- ---- how far things may be
 
@@ -219,12 +219,10 @@ ground m d es = record { code = bodies m d es; matchReturn = 0; mismatchReturn =
 unfoldable pub tree : ℕ → ℕ → List Entry → Tree
 tree m d es = grow (length (spans m d es)) false 0 0 (spans m d es)
 
--- A tree of spans begins with a comparison, so that it is entered at the front.
-unfoldable pub searchNumbers : ℕ → ℕ → List Entry → List Instruction
-searchNumbers m d [] = return d ∷ []
-searchNumbers m d (e ∷ es) = load 0 ∷ plant m d (tree m d (e ∷ es)) (ground m d (e ∷ es)) .code
+-- A tree of spans begins with a comparison, so that it is entered at the front. With nothing listed the code is the last return alone.
+unfoldable pub planted : ℕ → ℕ → List Entry → List Instruction
+planted m d es = plant m d (tree m d es) (ground m d es) .code
 
+-- behind the head that the emitted form has
 unfoldable pub searchForm : RuleSet → List Instruction
-searchForm rs =
-    load 4 ∷ ifEqual (architectureWord (rs .architecture)) 1 0 ∷ return killProcess
-    ∷ searchNumbers (rs .onMatch) (rs .mismatch) (rs .entries)
+searchForm rs = headed rs (planted (rs .onMatch) (rs .mismatch) (rs .entries))

@@ -11,7 +11,7 @@ use Rattle.definitions.specs.Format.{InRange}
 use Rattle.definitions.specs.Answer.{ascending, indicesTaken}
 use Rattle.search.specs.Search.{searchForm}
 use Rattle.search.specs.Counts.{searchMost}
-use Rattle.definitions.specs.Compiled.{foundSteps}
+use Rattle.definitions.specs.Compiled.{guardSteps, foundSteps}
 use Rattle.definitions.specs.RuleSet.{spanCount}
 
 -- it returns, for every call, the action that the rule set means
@@ -31,9 +31,9 @@ Bytes =
 abbrev pub Shorter : Type 0
 Shorter = (rs : RuleSet) → length (searchForm rs) ≤ length (emitted rs)
 
--- with at most 2 ^ k spans, a run takes searchMost k instructions at most, and beside them a return, or what the number's rules take by
--- themselves
+-- with at most 2 ^ k spans, a run takes searchMost k instructions at most, and beside them what a guard takes, and a return, or what the
+-- number's rules take by themselves
 abbrev pub Quick : Type 0
 Quick =
     (rs : RuleSet) → ascending (rs .entries) ≡ true → indicesTaken rs ≡ true → (c : Call) (k : ℕ) → spanCount (rs .entries) ≤ 2 ^ k
-    → steps (searchForm rs) c ≤ searchMost k + foundSteps rs c
+    → steps (searchForm rs) c ≤ searchMost k + guardSteps rs c + foundSteps rs c

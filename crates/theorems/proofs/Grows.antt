@@ -6,7 +6,7 @@ use Prim.Native.Nat.{ℕ}
 use lib.Dec.{eqb}
 use borrow.Author.Tests.{eqb-true}
 use Rattle.definitions.specs.Machine.{Call}
-use Rattle.definitions.specs.RuleSet.{Rule, Entry, RuleSet, architectureWord, allHold, anyHolds, matches, listed, meaning, isListed, MoreEntries, listing, adding, Grown, killProcess}
+use Rattle.definitions.specs.RuleSet.{Rule, Entry, RuleSet, architectureWord, allHold, anyHolds, matches, listed, meaning, isListed, MoreEntries, listing, adding, Grown, killProcess, hasSecondTable, inSecondTable, guarded}
 use Rattle.theorems.specs.Statements.{Grows}
 
 -- ---- a rule more
@@ -112,11 +112,13 @@ module _ (c : Call) (m d : ℕ) where
       (same-behind n (front ++ back) (front ++ (r ∷ back)) behind (matches-more c front back r some others e)) (rw p at h))
 
 pub grows : Grows
-unfolding meaning
+unfolding meaning guarded
 grows old new g c h =
-    rw (g .architecture, g .mismatch, g .onMatch) (go (eqb (c .architecture) (architectureWord (old .architecture))) h)
+    rw (g .architecture, g .nativeOnly, g .mismatch, g .onMatch)
+    (go (eqb (c .architecture) (architectureWord (old .architecture))) (guarded old && inSecondTable (c .number)) h)
   where
-    go : (t : Bool) → cond t (listed c (old .onMatch) (old .mismatch) (old .entries)) killProcess ≡ old .onMatch
-        → cond t (listed c (old .onMatch) (old .mismatch) (new .entries)) killProcess ≡ old .onMatch
-    go true e = listed-grows c (old .onMatch) (old .mismatch) (old .entries) (new .entries) (g .entries) e
-    go false e = e
+    go : (own killed : Bool) → cond own (cond killed killProcess (listed c (old .onMatch) (old .mismatch) (old .entries))) killProcess ≡ old .onMatch
+        → cond own (cond killed killProcess (listed c (old .onMatch) (old .mismatch) (new .entries))) killProcess ≡ old .onMatch
+    go true true e = e
+    go true false e = listed-grows c (old .onMatch) (old .mismatch) (old .entries) (new .entries) (g .entries) e
+    go false killed e = e

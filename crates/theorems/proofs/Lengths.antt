@@ -11,11 +11,12 @@ use Rattle.definitions.specs.declared.Operator.the-variants.{Eq, Ge, Gt, Le, Lt
 use Rattle.definitions.specs.declared.Width.{Width}
 use Rattle.definitions.specs.declared.Width.the-variants.{Dword, Qword}
 use Rattle.definitions.specs.declared.Condition.{Condition}
-use Rattle.definitions.specs.RuleSet.{Rule, Entry, RuleSet}
+use Rattle.definitions.specs.RuleSet.{Rule, Entry, RuleSet, guarded}
 use Rattle.definitions.specs.Emitted.{jumpBy, reach, highTests, lowTests, highPart, lowPart, conditionCode, helpers, near, stepCode, stepDistance, conditionsCode, ruleCode, rulesCode, bodyCode, entryCode, entriesCode, numbersCode, emitted}
 use Rattle.theorems.specs.Statements.{Lengths}
-use Rattle.theorems.specs.Length.{conditionLength, conditionsLength, sum, ruleLength, bodyLength, entryLength, filterLength}
+use Rattle.theorems.specs.Length.{conditionLength, conditionsLength, sum, ruleLength, bodyLength, entryLength, headLength, filterLength}
 use Rattle.theorems.proofs.Conditions.{compared}
+use Rattle.theorems.proofs.Heads.{length-head}
 
 as-parts : (o : Operator) (w : Width) (i v m f : ℕ) → length (conditionCode (compared o w i v m) f) ≡ conditionLength o w
 unfolding conditionCode highPart lowPart highTests lowTests conditionLength
@@ -80,11 +81,8 @@ unfolding entriesCode
 length-entries m d [] = refl
 length-entries m d (e ∷ es) = rw (length-append, length-entry-code m d e, length-entries m d es)
 
-length-numbers : (m d : ℕ) (es : List Entry) → 3 + length (numbersCode m d es) ≡ filterLength es
-unfolding numbersCode filterLength
-length-numbers m d [] = refl
-length-numbers m d (e ∷ es) = rw (length-append, length-entries m d (e ∷ es)) (omega arith)
-
 pub length-emitted : Lengths
-unfolding emitted
-length-emitted rs = omega (arith, length-numbers (rs .onMatch) (rs .mismatch) (rs .entries))
+unfolding emitted numbersCode filterLength
+length-emitted rs =
+    simp length-append
+    (omega (arith, length-head (rs .architecture) (guarded rs) (length (rs .entries)), length-entries (rs .onMatch) (rs .mismatch) (rs .entries)))

@@ -3,6 +3,7 @@ pub mod Halves
 pub mod Steps
 pub mod Conditions
 pub mod Rules
+pub mod Heads
 pub mod Right
 pub mod Once
 pub mod Safe

@@ -9,17 +9,20 @@ use lib.Dec.{eqb, leb, ltb}
 use lib.ListN.{length, take, getD, length-append}
 use lib.Seq.{take-all, take-append-le}
 use native.Mathlib.Nat.{add-zero, zero-add}
-use borrow.Author.Tests.{eqb-true, not-true, leb-true, leb-false, le-ltb}
+use borrow.Author.Tests.{eqb-true, not-true, leb-true, leb-false, le-ltb, lt-ltb}
 use Rattle.definitions.specs.declared.Condition.{Condition}
 use Rattle.definitions.specs.declared.Fault.{Fault}
 use Rattle.definitions.specs.declared.Answer.{Answer}
-use Rattle.definitions.specs.RuleSet.{Rule, Entry, RuleSet, oneOf}
-use Rattle.definitions.specs.Emitted.{emitted, numbersCode}
+use Rattle.definitions.specs.RuleSet.{Rule, Entry, RuleSet, withEntries, guarded, oneOf}
+use Rattle.definitions.specs.Emitted.{emitted}
 use Rattle.definitions.specs.Format.{read}
 use Rattle.definitions.specs.Answer as answers
 use Rattle.definitions.specs.Answer.{all, hasConditions, indexTaken, fitsWidth, rulesFilled, indicesTaken, widthsFit, tooMany, codeWith, firstFailing, faultyRule, firstWith, shortWith, tooLong, faultOf, noEntry, answerWith, answerOf}
 use Rattle.theorems.specs.Named.{FirstFailing, FirstWith, RuleNamed, ruleOf, NamedIn, Nowhere, Named, placeless, Unnamed}
+use Rattle.theorems.specs.Length.{filterLength}
 use Rattle.theorems.proofs.Tests.{either-true}
+use Rattle.theorems.proofs.Heads.{head-few}
+use Rattle.theorems.proofs.Lengths.{length-emitted}
 
 -- ---- of lists
 
@@ -129,8 +132,10 @@ module _ (rs : RuleSet) (room : ℕ) where
       (leb tooMany n) (ltb room (8 * n)) (not (widthsFit rs))
 
   short-without : shortWith rs [] ≡ true
-  unfolding emitted numbersCode
-  short-without = refl
+  unfolding filterLength
+  short-without =
+      let none : RuleSet = withEntries rs [] in
+      lt-ltb (length (emitted none)) tooMany (omega (arith, length-emitted none, head-few (guarded none) 0))
 
   ascending-without : answers.ascending [] ≡ true
   unfolding answers.ascending

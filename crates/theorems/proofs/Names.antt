@@ -3,16 +3,16 @@
 use mathlib.Core.Path.{_≡_, refl, sym, _∙_}
 use mathlib.Core.Bool.{Bool, true, false, cond, _&&_, _||_}
 use mathlib.Core.Option.{Option, none, some}
-use Prim.Native.Nat.{ℕ, zero, suc, _^_, _<_}
+use Prim.Native.Nat.{ℕ, zero, suc, _+_, _^_, _<_}
 use native.Mathlib.Omega.{arith}
 use lib.Dec.{eqb, leb}
-use borrow.Author.Tests.{eqb-true, eq-eqb, ne-eqb, lt-leb}
+use borrow.Author.Tests.{eqb-true, eq-eqb, ne-eqb, leb-true, le-leb, lt-leb}
 use Rattle.definitions.specs.declared.Operator.{Operator}
 use Rattle.definitions.specs.declared.Operator.the-variants.{Eq, Ge, Gt, Le, Lt, MaskedEq, Ne}
 use Rattle.definitions.specs.declared.Width.{Width}
 use Rattle.definitions.specs.declared.Width.the-variants.{Dword, Qword}
 use Rattle.definitions.specs.RuleSet.{Architecture, x86-64, aarch64, riscv64}
-use Rattle.definitions.specs.Format.{architectureNumber, widthNumber, operatorNumber, MaskInRange, architectureOf, widthOf, operatorOf, maskTaken}
+use Rattle.definitions.specs.Format.{architectureNumber, nativeFlag, headNumber, widthNumber, operatorNumber, MaskInRange, nativeOf, unflagged, architectureOf, widthOf, operatorOf, maskTaken}
 use Rattle.definitions.specs.Format.{isThere, then, check}
 use Rattle.theorems.proofs.Tests.{some-same}
 
@@ -33,17 +33,37 @@ operator-back Lt = refl
 operator-back MaskedEq = refl
 operator-back Ne = refl
 
-pub architecture-back : (a : Architecture) → architectureOf (architectureNumber a) ≡ some a
-unfolding architectureOf architectureNumber
-architecture-back x86-64 = refl
-architecture-back aarch64 = refl
-architecture-back riscv64 = refl
+-- the head's first number: architecture and flag
+pub unflagged-back : (a : Architecture) (native : Bool) → unflagged (headNumber a native) ≡ architectureNumber a
+unfolding unflagged nativeOf headNumber architectureNumber
+unflagged-back x86-64 true = refl
+unflagged-back x86-64 false = refl
+unflagged-back aarch64 true = refl
+unflagged-back aarch64 false = refl
+unflagged-back riscv64 true = refl
+unflagged-back riscv64 false = refl
 
-pub architecture-byte : (a : Architecture) → architectureNumber a < 256 ^ 4
+pub architecture-back : (a : Architecture) (native : Bool) → architectureOf (headNumber a native) ≡ some a
+unfolding architectureOf architectureNumber
+architecture-back x86-64 native = rw (unflagged-back x86-64 native)
+architecture-back aarch64 native = rw (unflagged-back aarch64 native)
+architecture-back riscv64 native = rw (unflagged-back riscv64 native)
+
+architecture-small : (a : Architecture) → architectureNumber a < nativeFlag
 unfolding architectureNumber
-architecture-byte x86-64 = omega arith
-architecture-byte aarch64 = omega arith
-architecture-byte riscv64 = omega arith
+architecture-small x86-64 = omega arith
+architecture-small aarch64 = omega arith
+architecture-small riscv64 = omega arith
+
+pub native-back : (a : Architecture) (native : Bool) → nativeOf (headNumber a native) ≡ native
+unfolding nativeOf headNumber
+native-back a true = le-leb nativeFlag (architectureNumber a + nativeFlag) (omega arith)
+native-back a false = lt-leb nativeFlag (architectureNumber a + 0) (omega (arith, architecture-small a))
+
+pub head-byte : (a : Architecture) (native : Bool) → headNumber a native < 256 ^ 4
+unfolding headNumber
+head-byte a true = omega (arith, architecture-small a)
+head-byte a false = omega (arith, architecture-small a)
 
 -- a mask in range is taken, and has room
 pub mask-back : (o : Operator) (m : ℕ) → MaskInRange o m → (maskTaken o m ≡ true) × (m < 256 ^ 8)
@@ -80,10 +100,19 @@ operator-forth n o =
     pick operatorNumber n 0 Eq refl (pick operatorNumber n 1 Ge refl (pick operatorNumber n 2 Gt refl (pick operatorNumber n 3 Le refl
     (pick operatorNumber n 4 Lt refl (pick operatorNumber n 5 MaskedEq refl (pick operatorNumber n 6 Ne refl none-some))))))
 
-pub architecture-forth : (n : ℕ) (a : Architecture) → architectureOf n ≡ some a → architectureNumber a ≡ n
+architecture-forth : (n : ℕ) (a : Architecture) → architectureOf n ≡ some a → architectureNumber a ≡ unflagged n
 unfolding architectureOf architectureNumber
 architecture-forth n a =
-    pick architectureNumber n 1 x86-64 refl (pick architectureNumber n 2 aarch64 refl (pick architectureNumber n 3 riscv64 refl none-some))
+    pick architectureNumber (unflagged n) 1 x86-64 refl
+    (pick architectureNumber (unflagged n) 2 aarch64 refl (pick architectureNumber (unflagged n) 3 riscv64 refl none-some))
+
+pub head-forth : (n : ℕ) (a : Architecture) → architectureOf n ≡ some a → headNumber a (nativeOf n) ≡ n
+unfolding headNumber unflagged nativeOf
+head-forth n a h = rw (architecture-forth n a h) (go (nativeOf n) refl)
+  where
+    go : (native : Bool) → nativeOf n ≡ native → unflagged n + cond native nativeFlag 0 ≡ n
+    go true e = rw e (omega (arith, leb-true nativeFlag n e))
+    go false e = rw e (omega arith)
 
 pub mask-forth : (o : Operator) (m : ℕ) → m < 2 ^ 64 → maskTaken o m ≡ true → MaskInRange o m
 unfolding maskTaken
@@ -97,9 +126,9 @@ mask-forth Ne m s h = eqb-true m 0 h
 
 -- ---- which numbers stand for a name: the tests of the code
 
-pub architecture-there : (n : ℕ) → isThere (architectureOf n) ≡ (eqb n 1 || (eqb n 2 || eqb n 3))
+pub architecture-there : (n : ℕ) → isThere (architectureOf n) ≡ (eqb (unflagged n) 1 || (eqb (unflagged n) 2 || eqb (unflagged n) 3))
 unfolding architectureOf
-architecture-there n = go (eqb n 1) (eqb n 2) (eqb n 3)
+architecture-there n = go (eqb (unflagged n) 1) (eqb (unflagged n) 2) (eqb (unflagged n) 3)
   where
     go : (a b c : Bool) → isThere (cond a (some x86-64) (cond b (some aarch64) (cond c (some riscv64) none))) ≡ (a || (b || c))
     go true b c = refl

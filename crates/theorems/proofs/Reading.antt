@@ -9,13 +9,14 @@ use lib.ListN.{length}
 use borrow.Author.Tests.{eqb-true, leb-true}
 use Rattle.definitions.specs.Word.{numberAt}
 use Rattle.definitions.specs.RuleSet.{RuleSet, isAction}
-use Rattle.definitions.specs.Format.{architectureOf, times, entryAt, read}
+use Rattle.definitions.specs.Format.{nativeOf, architectureOf, times, entryAt, read}
 use Rattle.theorems.proofs.Tests.{both-true, then-some, check-some, some-same}
 
 pub record Seen (s : List ℕ) (rs : RuleSet) : Type 0 where
   pub long : 16 ≤ length s
   pub short : length s ≤ 2 ^ 20
   pub architecture : architectureOf (numberAt 4 s 0) ≡ some (rs .architecture)
+  pub nativeOnly : rs .nativeOnly ≡ nativeOf (numberAt 4 s 0)
   pub mismatch : rs .mismatch ≡ numberAt 4 s 4
   pub onMatch : rs .onMatch ≡ numberAt 4 s 8
   pub mismatchKnown : isAction (numberAt 4 s 4) ≡ true
@@ -38,6 +39,7 @@ seen s rs h =
       long = leb-true 16 (length s) (t1 .1);
       short = leb-true (length s) (2 ^ 20) (t1 .0);
       architecture = w .1;
+      nativeOnly = refl;
       mismatch = refl;
       onMatch = refl;
       mismatchKnown = t2 .1;

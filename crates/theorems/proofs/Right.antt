@@ -3,18 +3,21 @@ use mathlib.Core.Path.{_≡_, refl, _∙_}
 use mathlib.Core.Bool.{Bool, true, false, cond}
 use mathlib.Core.List.{List, [], _∷_, _++_, append-assoc}
 use Prim.Native.Nat.{ℕ, _≤_}
+use native.Mathlib.Omega.{arith}
 use lib.Dec.{eqb, leb}
+use lib.ListN.{length}
 use borrow.Author.Tests.{leb-true}
 use Rattle.definitions.specs.declared.Instruction.{Instruction}
 use Rattle.definitions.specs.declared.Condition.{Condition}
-use Rattle.definitions.specs.Machine.{Call, State, Result, returns, run, runs, start, setA}
-use Rattle.definitions.specs.RuleSet.{Rule, Entry, RuleSet, allHold, anyHolds, matches, listed, meaning, killProcess}
+use Rattle.definitions.specs.Machine.{Call, State, Result, returns, run, start, setA}
+use Rattle.definitions.specs.RuleSet.{Rule, Entry, RuleSet, allHold, anyHolds, matches, listed}
 use Rattle.definitions.specs.Format.{Each}
 use Rattle.definitions.specs.Answer.{indicesTaken}
 use Rattle.definitions.specs.Emitted.{return, conditionsCode, distance, ruleCode, rulesCode, bodyCode, entryCode, entriesCode, numbersCode, emitted}
 use Rattle.theorems.specs.Statements.{Right}
 use Rattle.theorems.proofs.Tests.{each-of}
-use Rattle.theorems.proofs.Steps.{run-load, run-return, run-equal, skip1, fetch-number, fetch-architecture}
+use Rattle.theorems.proofs.Steps.{run-return, run-equal, skip1}
+use Rattle.theorems.proofs.Heads.{cond-returns, headed-right}
 use Rattle.theorems.proofs.Conditions.{Goes, cond-or}
 use Rattle.theorems.proofs.Rules.{IndexTaken, Walks, rule-here, rule-past}
 
@@ -47,10 +50,6 @@ module _ (m : ℕ) (rest : List Instruction) (c : Call) (n z : Result) (miss : G
   body-right [] g = record { here = rule-here m [] rest c n z tt miss pass; past = rule-past m [] rest c n z tt miss pass }
   body-right (r ∷ rs) g = rules-right (r ∷ rs) g
 
-cond-returns : (b : Bool) (m d : ℕ) → cond b (returns m) (returns d) ≡ returns (cond b m d)
-cond-returns true m d = refl
-cond-returns false m d = refl
-
 -- one entry, in front of the others, with the call's number in the accumulator
 entry-right : (m d : ℕ) (e : Entry) (p : List Instruction) (c : Call) {z : Result} → EntryTaken e → Walks 0 p c z
     → Walks 0 (entryCode m d e ++ p) c (cond (eqb (c .number) (e .number)) (cond (matches c (e .rules)) (returns m) (returns d)) z)
@@ -59,21 +58,21 @@ entry-right m d e p c {z} g w s at =
     let h = body-right m (return d ∷ p) c (returns d) z (λ t. run-return p t c d) (λ t q. skip1 p t c (return d) ∙ w t q) (e .rules) g in
     rw (append-assoc, run-equal, h .here s, h .past s at, at)
 
-entries-right : (m d : ℕ) (es : List Entry) (c : Call) → Each EntryTaken es
-    → Walks 0 (entriesCode m d es ++ (return d ∷ [])) c (returns (listed c m d es))
-unfolding entriesCode listed
+entries-right : (m d : ℕ) (es : List Entry) (c : Call) → Each EntryTaken es → Walks 0 (numbersCode m d es) c (returns (listed c m d es))
+unfolding numbersCode entriesCode listed
 entries-right m d [] c g s at = run-return [] s c d
 entries-right m d (e ∷ es) c g s at =
-    rw append-assoc (entry-right m d e (entriesCode m d es ++ (return d ∷ [])) c (g .0) (entries-right m d es c (g .1)) s at ∙ simp cond-returns)
+    rw append-assoc (entry-right m d e (numbersCode m d es) c (g .0) (entries-right m d es c (g .1)) s at ∙ simp cond-returns)
 
-numbers-right : (m d : ℕ) (es : List Entry) (c : Call) → Each EntryTaken es → Goes 0 (numbersCode m d es) c (returns (listed c m d es))
-unfolding numbersCode listed
-numbers-right m d [] c g s = run-return [] s c d
-numbers-right m d (e ∷ es) c g s =
-    run-load _ s c 0 (fetch-number c) ∙ entries-right m d (e ∷ es) c g (setA (c .number) s) refl
+-- without entries it does not matter what was loaded
+none-right : (m d : ℕ) (es : List Entry) (c : Call) (s : State) → length es ≡ 0 → run 0 (numbersCode m d es) s c ≡ returns (listed c m d es)
+unfolding numbersCode entriesCode listed
+none-right m d [] c s e = run-return [] s c d
+none-right m d (x ∷ es) c s e = absurd (omega arith)
 
 pub right : Right
-unfolding emitted meaning
+unfolding emitted
 right rs taken c =
-    run-load _ start c 4 (fetch-architecture c)
-    ∙ rw (run-equal, skip1, run-return, numbers-right (rs .onMatch) (rs .mismatch) (rs .entries) c (each-index rs taken), cond-returns)
+    headed-right rs (numbersCode (rs .onMatch) (rs .mismatch) (rs .entries)) c
+    (entries-right (rs .onMatch) (rs .mismatch) (rs .entries) c (each-index rs taken) (setA (c .number) start) refl)
+    (none-right (rs .onMatch) (rs .mismatch) (rs .entries) c (setA (c .architecture) start))

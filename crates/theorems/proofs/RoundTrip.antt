@@ -1,7 +1,7 @@
 -- ROUND TRIP: reading what was written gives the rule set back, and bytes of the format are what is written of the rule set read from
 -- them. So the reader needs no belief, and two different byte strings never are one rule set.
 use mathlib.Core.Path.{_≡_, refl, ap, sym, _∙_}
-use mathlib.Core.Bool.{true, _&&_}
+use mathlib.Core.Bool.{Bool, true, _&&_}
 use mathlib.Core.List.{List, [], _∷_, _++_, append-assoc, append-nil}
 use mathlib.Core.Option.{Option, some}
 use Prim.Native.Nat.{ℕ, zero, suc, _+_, _^_, _≤_, _<_}
@@ -16,7 +16,7 @@ use Rattle.definitions.specs.declared.Width.{Width}
 use Rattle.definitions.specs.declared.Condition.{Condition}
 use Rattle.definitions.specs.Word.{bytesOf, numberAt, AreBytes}
 use Rattle.definitions.specs.RuleSet.{Architecture, Rule, Entry, RuleSet, isAction}
-use Rattle.definitions.specs.Format.{architectureNumber, widthNumber, operatorNumber, joined, encodeCondition, encodeRule, encodeEntry, encode}
+use Rattle.definitions.specs.Format.{headNumber, widthNumber, operatorNumber, joined, encodeCondition, encodeRule, encodeEntry, encode}
 use Rattle.definitions.specs.Format.{Each, ConditionInRange, EntryInRange, InRange}
 use Rattle.definitions.specs.Format.{architectureOf, widthOf, operatorOf, maskTaken, Read, then, times, conditionAt, ruleAt, entryAt, read}
 use Rattle.theorems.specs.Statements.{RoundTrip, OneForm}
@@ -24,7 +24,7 @@ use Rattle.theorems.proofs.Tests.{both-true, each-both, then-some, chec
 use Rattle.theorems.proofs.Reading.{seen}
 use Rattle.theorems.proofs.Taken.{action-small}
 use Rattle.theorems.proofs.Conditions.{compared}
-use Rattle.theorems.proofs.Names.{width-back, operator-back, architecture-back, architecture-byte, mask-back, width-forth, operator-forth, architecture-forth, mask-forth}
+use Rattle.theorems.proofs.Names.{width-back, operator-back, architecture-back, native-back, head-byte, mask-back, width-forth, operator-forth, head-forth, mask-forth}
 use Rattle.theorems.proofs.Forms.{length-condition, length-rule, length-entry, short-count, zeros-front, value-front, mask-front}
 use Rattle.theorems.proofs.Words.{length-bytes, number-here, number-past, number-front, byte-here, byte-past, number-drop, byte-drop, number-at-small}
 
@@ -132,7 +132,7 @@ entry-back x g p t at e =
 pub written-read : (rs : RuleSet) → InRange rs → read (encode rs) ≡ some rs
 unfolding read encode
 written-read rs g =
-    let a = bytesOf 4 (architectureNumber (rs .architecture)) in
+    let a = bytesOf 4 (headNumber (rs .architecture) (rs .nativeOnly)) in
     let d = bytesOf 4 (rs .mismatch) in
     let m = bytesOf 4 (rs .onMatch) in
     let n = bytesOf 4 (length (rs .entries)) in
@@ -146,8 +146,8 @@ written-read rs g =
     let back = times-back entryAt encodeEntry (rs .entries) (each-map entry-back (rs .entries) fits) (a ++ (d ++ (m ++ n))) [] 16
     (simp (length-append, length-bytes)) in
     let same : a ++ (d ++ (m ++ n)) ++ (es ++ []) ≡ all = simp (append-assoc, append-nil) in
-    let first : numberAt 4 all 0 ≡ architectureNumber (rs .architecture) =
-    number-front 4 (architectureNumber (rs .architecture)) (d ++ (m ++ (n ++ es))) (architecture-byte (rs .architecture)) in
+    let first : numberAt 4 all 0 ≡ headNumber (rs .architecture) (rs .nativeOnly) =
+    number-front 4 (headNumber (rs .architecture) (rs .nativeOnly)) (d ++ (m ++ (n ++ es))) (head-byte (rs .architecture) (rs .nativeOnly)) in
     let second : numberAt 4 all 4 ≡ rs .mismatch =
     number-here 4 a (d ++ (m ++ (n ++ es))) 4 (length-bytes 4 _) ∙ number-front 4 (rs .mismatch) (m ++ (n ++ es)) (action-small (rs .mismatch) (g .mismatch)) in
     let third : numberAt 4 all 8 ≡ rs .onMatch =
@@ -165,7 +165,8 @@ written-read rs g =
       g .mismatch,
       g .onMatch,
       first,
-      architecture-back,
+      architecture-back (rs .architecture) (rs .nativeOnly),
+      native-back (rs .architecture) (rs .nativeOnly),
       fourth,
       rw same at back,
       eq-eqb (16 + length es) (length all) (sym long),
@@ -265,11 +266,11 @@ module _ (bs : List ℕ) (bytes : AreBytes bs) where
         good = record { number = number-at-small 4 bs at bytes; rules = rules .0 .good };
       })
 
-  head-spelled : (a : Architecture) (es : List Entry) → 16 ≤ length bs → architectureNumber a ≡ numberAt 4 bs 0 → length es ≡ numberAt 4 bs 12
+  head-spelled : (a : Architecture) (native : Bool) (es : List Entry) → 16 ≤ length bs → headNumber a native ≡ numberAt 4 bs 0 → length es ≡ numberAt 4 bs 12
       → drop 16 bs ≡ joined encodeEntry es
-      → encode (record { architecture = a; mismatch = numberAt 4 bs 4; onMatch = numberAt 4 bs 8; entries = es }) ≡ bs
+      → encode (record { architecture = a; nativeOnly = native; mismatch = numberAt 4 bs 4; onMatch = numberAt 4 bs 8; entries = es }) ≡ bs
   unfolding encode
-  head-spelled a es room number count entries =
+  head-spelled a native es room number count entries =
       let d0 = number-drop 4 bs 0 4 bytes refl (omega arith) in
       let d4 = number-drop 4 bs 4 8 bytes refl (omega arith) in
       let d8 = number-drop 4 bs 8 12 bytes refl (omega arith) in
@@ -280,7 +281,7 @@ module _ (bs : List ℕ) (bytes : AreBytes bs) where
   read-written rs h =
       let r = seen bs rs h in
       let entries = times-forth encodeEntry EntryInRange bs (entryAt bs) entry-forth (numberAt 4 bs 12) 16 _ (r .entries) in
-      let whole = head-spelled (rs .architecture) (rs .entries) (r .long) (architecture-forth (numberAt 4 bs 0) (rs .architecture) (r .architecture))
+      let whole = head-spelled (rs .architecture) (rs .nativeOnly) (rs .entries) (r .long) (rw (r .nativeOnly) (head-forth (numberAt 4 bs 0) (rs .architecture) (r .architecture)))
       (entries .1) (entries .0 .here ∙ rw (drop-length) (append-nil (joined encodeEntry (rs .entries)))) in
       let same : encode rs ≡ bs = rw (← r .mismatch, ← r .onMatch) at whole in (
         record {

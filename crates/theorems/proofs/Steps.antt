@@ -1,6 +1,6 @@
 -- One instruction at a time: what `run` does at each instruction that is emitted. Everything about meaning rests on these equations.
 use mathlib.Core.Path.{_≡_, refl, ap}
-use mathlib.Core.Bool.{Bool, true, false, cond}
+use mathlib.Core.Bool.{Bool, true, false, cond, not}
 use mathlib.Core.List.{List, [], _∷_}
 use mathlib.Core.Option.{Option, none, some}
 use Prim.Native.Nat.{ℕ, zero, suc, _+_, _<_, _≤_}
@@ -12,7 +12,7 @@ use Rattle.definitions.specs.declared.Instruction.{Instruction}
 use Rattle.definitions.specs.Word.{low, high}
 use Rattle.definitions.specs.Machine.{Call, State, Result, returns, setA, words, fetch, codes, kindIn, kindOf, intoA, compute, testHolds, stepAs, step, run}
 use Rattle.definitions.specs.RuleSet.{argument}
-use Rattle.definitions.specs.Emitted.{load, maskBy, jumpBy, ifEqual, ifGreater, ifAtLeast, return, lowAt, highAt}
+use Rattle.definitions.specs.Emitted.{load, maskBy, jumpBy, ifEqual, ifGreater, ifAtLeast, ifAnyBit, return, lowAt, highAt}
 
 -- the two words of an argument
 pub fetch-low : (i : ℕ) → i ≤ 5 → (c : Call) → fetch c (lowAt i) ≡ some (low (argument i c))
@@ -106,6 +106,10 @@ module _ (p : List Instruction) (s : State) (c : Call) where
   pub run-greater : (k t f : ℕ) → run 0 (ifGreater k t f ∷ p) s c ≡ cond (ltb k (s .A)) (run t p s c) (run f p s c)
   unfolding run step stepAs kindOf kindIn codes testHolds
   run-greater k t f = branch (ltb k (s .A)) t f
+
+  pub run-any-bit : (k t f : ℕ) → run 0 (ifAnyBit k t f ∷ p) s c ≡ cond (not (eqb (bitAnd (s .A) k) 0)) (run t p s c) (run f p s c)
+  unfolding run step stepAs kindOf kindIn codes testHolds
+  run-any-bit k t f = branch (not (eqb (bitAnd (s .A) k) 0)) t f
 
   pub run-at-least : (k t f : ℕ) → run 0 (ifAtLeast k t f ∷ p) s c ≡ cond (leb k (s .A)) (run t p s c) (run f p s c)
   unfolding run step stepAs kindOf kindIn codes testHolds

@@ -16,10 +16,10 @@ use Rattle.definitions.specs.declared.Width.the-variants.{Dword, Qword}
 use Rattle.definitions.specs.declared.Condition.{Condition}
 use Rattle.definitions.specs.Machine.{Kind, ldAbs, ldLen, ldImm, ldMem, ldxLen, ldxImm, ldxMem, st, stx, tax, txa, neg, ja, retK, retA, unknown, alu, jump, codes, kindIn, kindOf}
 use Rattle.definitions.specs.Kernel.{constantTaken, operandTaken, takenAs, eachTaken, Effect, plain, reads, writes, jumps, branches, leaves, effectAs, effectOf, isReturn, endsInReturn, Words, noWord, everyWord, scratchNext, scratchTaken, accepts}
-use Rattle.definitions.specs.RuleSet.{Architecture, x86-64, aarch64, riscv64, architectureWord, Rule, Entry, RuleSet, killProcess, oneOf, plainActions, numberedActions, isAction}
+use Rattle.definitions.specs.RuleSet.{Architecture, x86-64, aarch64, riscv64, architectureWord, Rule, Entry, RuleSet, guarded, killProcess, oneOf, plainActions, numberedActions, isAction}
 use Rattle.definitions.specs.Format.{Each, MaskInRange, ConditionInRange, EntryInRange, InRange}
 use Rattle.definitions.specs.Answer.{indicesTaken}
-use Rattle.definitions.specs.Emitted.{jumpBy, ifEqual, load, return, reach, highTests, lowTests, highPart, lowPart, conditionCode, helpers, near, stepCode, stepDistance, conditionsCode, distance, ruleCode, rulesCode, bodyCode, entryCode, entriesCode, numbersCode, emitted}
+use Rattle.definitions.specs.Emitted.{jumpBy, ifEqual, load, return, reach, highTests, lowTests, highPart, lowPart, conditionCode, helpers, near, stepCode, stepDistance, conditionsCode, distance, ruleCode, rulesCode, bodyCode, entryCode, entriesCode, numbersCode, guard, numberCode, headCode, headed, emitted}
 use Rattle.theorems.specs.Statements.{Taken}
 use Rattle.theorems.specs.Shape.{LandsAs, Fits, Shaped}
 use Rattle.theorems.proofs.Tests.{true-both, either-true, one-below, each-both}
@@ -263,23 +263,11 @@ module _ (m : ℕ) (hm : m < 2 ^ 32) where
     abbrev GoodEntry : Entry → Type 0
     GoodEntry e = (e .number < 2 ^ 32) × Each (Each Good) (e .rules)
 
-    entries-sound : (es : List Entry) → Each GoodEntry es → Sound 0 (entriesCode m d es ++ (return d ∷ []))
-    unfolding entriesCode
-    entries-sound [] g = return-last d hd
-    entries-sound (e ∷ es) g =
-        rw append-assoc (entry-sound e (entriesCode m d es ++ (return d ∷ [])) (g .0 .0) (g .0 .1) (entries-sound es (g .1)))
-
     numbers-sound : (es : List Entry) → Each GoodEntry es → Sound 0 (numbersCode m d es)
-    unfolding numbersCode Shaped LandsAs kindOf kindIn codes
+    unfolding numbersCode entriesCode
     numbers-sound [] g = return-last d hd
     numbers-sound (e ∷ es) g =
-        let x = entries-sound (e ∷ es) g in
-        let s = x .shaped in
-        record {
-          shaped = search arith depth 16;
-          ends = ends-append (load 0 ∷ []) (entriesCode m d (e ∷ es) ++ (return d ∷ [])) (x .ends);
-          long = omega arith;
-        }
+        rw append-assoc (entry-sound e (numbersCode m d es) (g .0 .0) (g .0 .1) (numbers-sound es (g .1)))
 
 -- ---- from what is known of a rule set
 
@@ -298,20 +286,38 @@ architecture-small x86-64 = omega arith
 architecture-small aarch64 = omega arith
 architecture-small riscv64 = omega arith
 
-pub emitted-sound : (rs : RuleSet) → InRange rs → indicesTaken rs ≡ true → Sound 0 (emitted rs)
-unfolding emitted Shaped LandsAs kindOf kindIn codes
-emitted-sound rs r t =
-    let x = numbers-sound (rs .onMatch) (action-small (rs .onMatch) (r .onMatch)) (rs .mismatch) (action-small (rs .mismatch) (r .mismatch)) (rs .entries)
-    (each-both good-entry (rs .entries) (r .entries) (each-index rs t)) in
+number-sound : (guards : Bool) (n : ℕ) (p : List Instruction) → Sound 0 p → Sound 0 (numberCode guards n ++ p)
+unfolding numberCode Shaped LandsAs kindOf kindIn codes
+number-sound true n p x =
+    let s = x .shaped in
+    let l = x .long in
+    record { shaped = search arith depth 16; ends = ends-append (load 0 ∷ guard) p (x .ends); long = omega arith }
+number-sound false zero p x = x
+number-sound false (suc n) p x =
+    let s = x .shaped in
+    record { shaped = search arith depth 16; ends = ends-append (load 0 ∷ []) p (x .ends); long = omega arith }
+
+-- code that is sound is so behind a head
+pub headed-sound : (rs : RuleSet) (p : List Instruction) → Sound 0 p → Sound 0 (headed rs p)
+unfolding headCode Shaped LandsAs kindOf kindIn codes
+headed-sound rs p h =
+    let q : List Instruction = numberCode (guarded rs) (length (rs .entries)) ++ p in
+    let x = number-sound (guarded rs) (length (rs .entries)) p h in
     let s = x .shaped in
     let l = x .long in
     let a = architecture-small (rs .architecture) in
     record {
       shaped = search arith depth 16;
-      ends = ends-append (load 4 ∷ ifEqual (architectureWord (rs .architecture)) 1 0 ∷ return killProcess ∷ [])
-          (numbersCode (rs .onMatch) (rs .mismatch) (rs .entries)) (x .ends);
+      ends = ends-append (load 4 ∷ ifEqual (architectureWord (rs .architecture)) 1 0 ∷ return killProcess ∷ []) q (x .ends);
       long = omega arith;
     }
+
+pub emitted-sound : (rs : RuleSet) → InRange rs → indicesTaken rs ≡ true → Sound 0 (emitted rs)
+unfolding emitted
+emitted-sound rs r t =
+    headed-sound rs (numbersCode (rs .onMatch) (rs .mismatch) (rs .entries))
+    (numbers-sound (rs .onMatch) (action-small (rs .onMatch) (r .onMatch)) (rs .mismatch) (action-small (rs .mismatch) (r .mismatch)) (rs .entries)
+    (each-both good-entry (rs .entries) (r .entries) (each-index rs t)))
 
 pub taken : Taken
 unfolding accepts

@@ -1,15 +1,16 @@
 -- How long a filter is, counted without writing it: a sum over entries, rules and conditions. Theorem `length-emitted` says that this
 -- is the emitted filter's length; no promise needs it to be believed.
-use Prim.Native.Nat.{ℕ, _+_}
-use mathlib.Core.Bool.{cond}
+use Prim.Native.Nat.{ℕ, zero, suc, _+_}
+use mathlib.Core.Bool.{Bool, true, false, cond}
 use mathlib.Core.List.{List, [], _∷_}
 use lib.Dec.{ltb}
+use lib.ListN.{length}
 use Rattle.definitions.specs.declared.Operator.{Operator}
 use Rattle.definitions.specs.declared.Operator.the-variants.{Eq, Ge, Gt, Le, Lt, MaskedEq, Ne}
 use Rattle.definitions.specs.declared.Width.{Width}
 use Rattle.definitions.specs.declared.Width.the-variants.{Dword, Qword}
 use Rattle.definitions.specs.declared.Condition.{Condition}
-use Rattle.definitions.specs.RuleSet.{Rule, Entry, RuleSet}
+use Rattle.definitions.specs.RuleSet.{Rule, Entry, RuleSet, guarded}
 use Rattle.definitions.specs.Emitted.{reach, near}
 
 -- a dword's instructions, and a qword's
@@ -46,6 +47,11 @@ bodyLength (r ∷ rs) = sum ruleLength (r ∷ rs)
 abbrev pub entryLength : Entry → ℕ
 entryLength e = 2 + bodyLength (e .rules)
 
-unfoldable pub filterLength : List Entry → ℕ
-filterLength [] = 4
-filterLength (e ∷ es) = 5 + sum entryLength (e ∷ es)
+-- the head, in front of n entries: with a guard, else with the load of the number where something is listed
+unfoldable pub headLength : Bool → ℕ → ℕ
+headLength true n = 7
+headLength false zero = 3
+headLength false (suc n) = 4
+
+unfoldable pub filterLength : RuleSet → ℕ
+filterLength rs = headLength (guarded rs) (length (rs .entries)) + sum entryLength (rs .entries) + 1

@@ -31,7 +31,7 @@ Taken = (rs : RuleSet) → InRange rs → indicesTaken rs ≡ true → length (e
 
 -- it is as long as a sum over entries, rules and conditions says
 abbrev pub Lengths : Type 0
-Lengths = (rs : RuleSet) → length (emitted rs) ≡ filterLength (rs .entries)
+Lengths = (rs : RuleSet) → length (emitted rs) ≡ filterLength rs
 
 -- ---- of every filter
 

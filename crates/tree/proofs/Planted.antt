@@ -1,25 +1,25 @@
 -- Laws of the tree of a whole rule set, planted in front of the code of its rules, and of the filter that they make. Assumes nothing.
 use mathlib.Core.Path.{_≡_, refl, sym, _∙_}
 use mathlib.Core.Bool.{false}
-use mathlib.Core.List.{List, [], _∷_, _++_}
-use Prim.Native.Nat.{ℕ, zero, suc, _+_, _*_, _≤_}
+use mathlib.Core.List.{List, _++_}
+use Prim.Native.Nat.{ℕ, _+_, _*_, _≤_}
 use native.Mathlib.Omega.{arith}
-use lib.ListN.{length, take}
+use lib.ListN.{length, length-append, take}
 use lib.Seq.{take-length}
 use Rattle.definitions.specs.declared.Instruction.{Instruction}
 use Rattle.definitions.specs.Word.{numberAt}
-use Rattle.definitions.specs.Machine.{instructionBytes, filterBytes}
-use Rattle.definitions.specs.RuleSet.{architectureWord, killProcess}
-use Rattle.definitions.specs.Emitted.{load, ifEqual, return}
-use Rattle.bpf.specs.Place.{place}
-use Rattle.bpf.proofs.Laws.{put-first, puts-before, before-is}
-use Rattle.filter.specs.At.{namedArchitecture, entriesHere, setHere}
-use Rattle.search.specs.Search.{jumpReach, blockReach, toMismatch, toMatch, toRules, Tree, leaf, node, block, grow, Form, plantLeaf, openBlock, plant, ground, tree, searchNumbers, searchForm}
+use Rattle.definitions.specs.Machine.{filterBytes}
+use Rattle.bpf.specs.Place.{place, placeBefore}
+use Rattle.bpf.proofs.Laws.{puts-before, before-is}
+use Rattle.filter.specs.At.{entriesHere, setHere}
+use Rattle.filter.proofs.Laws.{headHere, headed-is}
+use Rattle.search.specs.Search.{jumpReach, blockReach, bodies, toMismatch, toMatch, toRules, Tree, leaf, node, block, grow, Form, plantLeaf, openBlock, plant, ground, tree, planted, searchForm}
 use Rattle.search.proofs.Sizes.{place-adds, return-adds, compare-size}
+use Rattle.search.proofs.Shorter.{planted-none}
 use Rattle.bodies.specs.Here.{bodiesHere}
 use Rattle.runs.specs.Spans.{spansHere}
 use Rattle.tree.specs.declared.Marks.{Marks}
-use Rattle.tree.specs.Forms.{plantedHere, searchedHere, Ends, Makes}
+use Rattle.tree.specs.Forms.{plantedHere, Ends, Makes}
 
 -- ---- the tree in front
 
@@ -27,7 +27,7 @@ pub planted-there : (s : List ℕ) (n total runs m d : ℕ) {end : ℕ} {r : Mar
     → total ≡ length (bodiesHere s n 16) → runs ≡ length (spansHere s n 16)
     → Makes end (record { count = total; hit = 0; miss = 1; at = 1 }) r old new (plant m d (grow runs false 0 0 (take runs (spansHere s n 16))))
     → (z : List ℕ) → Ends z end (bodiesHere s n 16) old → (r .count ≡ length (plantedHere s n)) × Ends z end (plantedHere s n) new
-unfolding tree ground
+unfolding planted tree ground
 planted-there s n total runs m d em ed et er made z w =
     let es = entriesHere s n 16 in
     let h = made z (ground m d es) (record { count = rw (em, ed) (sym et); hit = refl; miss = refl; at = refl; code = rw (em, ed) w }) in
@@ -47,36 +47,27 @@ plant-longer m d (node t n hit miss) f =
 plant-longer m d (block t) f = omega (arith, return-adds blockReach d (f .mismatchReturn) (f .code) .grew, plant-longer m d t (openBlock d f))
 
 pub planted-longer : (s : List ℕ) (n : ℕ) → length (bodiesHere s n 16) ≤ length (plantedHere s n)
-unfolding ground
+unfolding planted ground
 planted-longer s n = plant-longer (numberAt 4 s 8) (numberAt 4 s 4) _ (ground (numberAt 4 s 8) (numberAt 4 s 4) (entriesHere s n 16))
+
+-- with nothing listed, the code of the rules is all
+pub planted-bodies : (s : List ℕ) (n : ℕ) → n ≡ 0 → plantedHere s n ≡ bodiesHere s n 16
+unfolding entriesHere bodies
+planted-bodies s n e = rw e (planted-none (numberAt 4 s 8) (numberAt 4 s 4))
 
 -- ---- the whole filter
 
-pub searched-none : (s : List ℕ) (n : ℕ) → n ≡ 0 → searchedHere s n ≡ return (numberAt 4 s 4) ∷ []
-unfolding searchNumbers entriesHere
-searched-none s n e = rw e
-
-pub searched-some : (s : List ℕ) (n : ℕ) → (n ≡ 0 → ⊥) → searchedHere s n ≡ load 0 ∷ plantedHere s n
-unfolding searchNumbers entriesHere
-searched-some s zero h = absurd (h refl)
-searched-some s (suc n) h = refl
-
-pub search-is : (s : List ℕ)
-    → searchForm (setHere s)
-    ≡ (load 4 ∷ ifEqual (architectureWord (namedArchitecture (numberAt 4 s 0))) 1 0 ∷ return killProcess ∷ []) ++ searchedHere s (numberAt 4 s 12)
+pub search-is : (s : List ℕ) → searchForm (setHere s) ≡ headHere s ++ plantedHere s (numberAt 4 s 12)
 unfolding searchForm setHere
-search-is s = refl
+search-is s = headed-is s _
 
-pub search-long : (s : List ℕ) → length (searchForm (setHere s)) ≡ 3 + length (searchedHere s (numberAt 4 s 12))
-search-long s = rw (search-is s) (omega arith)
+pub search-long : (s : List ℕ) → length (searchForm (setHere s)) ≡ length (headHere s) + length (plantedHere s (numberAt 4 s 12))
+search-long s = rw (search-is s) (length-append (headHere s) (plantedHere s (numberAt 4 s 12)))
 
--- code that is there ends where it was to end
-pub planted-put : (z out new : List ℕ) (count : ℕ) (p : List Instruction) → count ≡ 4 + length p → 8 * count ≤ length z → Ends z (8 * count) p out
-    → new ≡ place out 24 (instructionBytes (load 0)) → new ≡ place z 24 (filterBytes (load 0 ∷ p))
-planted-put z out new count p e room w o =
-    o
-    ∙ rw (w .there (omega arith), before-is z (8 * count) 32 p (omega arith), put-first (place z 32 (filterBytes p)) 24 (load 0))
-    (puts-before z 24 32 (load 0 ∷ []) p (omega arith) (omega arith))
+-- the head in front of code that ends where a filter of `count` instructions does
+pub head-put : (z : List ℕ) (count : ℕ) (h p : List Instruction) → count ≡ length h + length p → 8 * count ≤ length z
+    → place (placeBefore z (8 * count) (filterBytes p)) 0 (filterBytes h) ≡ place z 0 (filterBytes (h ++ p))
+head-put z count h p e room = rw (before-is z (8 * count) (8 * length h) p (omega arith)) (puts-before z 0 (8 * length h) h p (omega arith) (omega arith))
 
 -- the code of the rules is put where it is to end
 pub bodies-put : (z out : List ℕ) (end at : ℕ) (p : List Instruction) → at + 8 * length p ≡ end → end ≤ length z → out ≡ place z at (filterBytes p)

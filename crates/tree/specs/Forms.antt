@@ -8,10 +8,9 @@ use lib.ListN.{length}
 use Rattle.definitions.specs.declared.Instruction.{Instruction}
 use Rattle.definitions.specs.Word.{numberAt}
 use Rattle.definitions.specs.Machine.{filterBytes}
-use Rattle.definitions.specs.RuleSet.{Entry}
 use Rattle.bpf.specs.Place.{placeBefore}
 use Rattle.filter.specs.At.{entriesHere}
-use Rattle.search.specs.Search.{Form, Spot, nearReturn, openBlock, Comparison, equal, atLeast, above, plant, ground, tree, searchNumbers}
+use Rattle.search.specs.Search.{Form, Spot, nearReturn, openBlock, Comparison, equal, atLeast, above, planted}
 use Rattle.tree.specs.declared.Marks.{Marks}
 use Rattle.tree.specs.declared.Reached.{Reached}
 
@@ -77,12 +76,4 @@ pub record Grew (more : ℕ) (k r : Marks) : Type 0 where
 
 -- the tree of its n entries, in front of the code of their rules
 abbrev pub plantedHere : List ℕ → ℕ → List Instruction
-plantedHere s n =
-    let m : ℕ = numberAt 4 s 8 in
-    let d : ℕ = numberAt 4 s 4 in
-    let es : List Entry = entriesHere s n 16 in
-    plant m d (tree m d es) (ground m d es) .code
-
--- what stands behind the test of the architecture
-abbrev pub searchedHere : List ℕ → ℕ → List Instruction
-searchedHere s n = searchNumbers (numberAt 4 s 8) (numberAt 4 s 4) (entriesHere s n 16)
+plantedHere s n = planted (numberAt 4 s 8) (numberAt 4 s 4) (entriesHere s n 16)

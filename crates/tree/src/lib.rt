@@ -10,12 +10,12 @@ ghost use lib.ListN.{length, take};
 ghost use Rattle.definitions.specs.declared.Instruction.{Instruction};
 ghost use Rattle.definitions.specs.Word.{numberAt};
 ghost use Rattle.definitions.specs.Machine.{filterBytes};
-ghost use Rattle.bpf.specs.Place.{place};
+ghost use Rattle.bpf.specs.Place.{place, placeBefore};
 ghost use Rattle.filter.specs.At.{entriesPast, setHere};
 ghost use Rattle.search.specs.Search.{singles, away, nearPlace, nearReturn, leaf, toMismatch, plant, Comparison, compareFirst, endsBy, upTo, link, chain, grow, searchForm};
 ghost use Rattle.bodies.specs.Here.{bodiesHere};
 ghost use Rattle.runs.specs.Spans.{spansFrom, spanOf, destination, Stands};
-ghost use Rattle.tree.specs.Forms.{Ends, Reaches, Ready, Grew, Makes, toReturn, openIf, codeOf, plantedHere, searchedHere};
+ghost use Rattle.tree.specs.Forms.{Ends, Reaches, Ready, Grew, Makes, toReturn, openIf, codeOf, plantedHere};
 use definitions::Instruction;
 use runs::Cursor;
 use runs::Run;
@@ -312,13 +312,16 @@ fn put_tree(
 }
 
 // Writes the tree of the n entries in front of the code of their rules, which has `total` instructions and ends at a place, and answers
-// how many there are then.
+// how many there are then. With nothing listed there is no tree.
 fn put_planted(out: &mut [u8], end: usize, s: &[u8], n: u32, total: usize) -> usize
-    requires { ⌜ (end ≤ length (now out)) × (16 ≤ length (now s)) × (length (now s) ≤ 1048576) × (entriesPast (now s) n 16 ≤ length (now s)) × (n ≡ 0 → ⊥) ⌝ }
+    requires { ⌜ (end ≤ length (now out)) × (16 ≤ length (now s)) × (length (now s) ≤ 1048576) × (entriesPast (now s) n 16 ≤ length (now s)) ⌝ }
     requires { ⌜ (total ≡ length (bodiesHere (now s) n 16)) × (total ≤ 1048577) ⌝ }
     ensures { λ r. ⌜ (r ≤ 16777216) × ((z : List ℕ) → Ends z end (bodiesHere (now (s .entry)) n 16) (now (out .entry))
         → (r ≡ length (plantedHere (now (s .entry)) n)) × Ends z end (plantedHere (now (s .entry)) n) (now (out .exit))) ⌝ }
 {
+    if n == 0 {
+        return total;
+    }
     let plan = Plan {
         end: end,
         m: bpf::u32_at(s, 8),
@@ -341,24 +344,18 @@ fn put_planted(out: &mut [u8], end: usize, s: &[u8], n: u32, total: usize) -> us
     tree.count
 }
 
-// Writes what stands behind the test of the architecture: the load of the number, which stands at 0 in the call data, the tree of the n
-// entries, and the code of their rules. The filter has `count` instructions in all.
+// Writes the tree of the n entries and the code of their rules, so that they end where a filter of `count` instructions does.
 fn put_searched(out: &mut [u8], s: &[u8], n: u32, count: usize)
     requires { ⌜ (16 ≤ length (now s)) × (length (now s) ≤ 1048576) × (entriesPast (now s) n 16 ≤ length (now s)) ⌝ }
-    requires { ⌜ (count ≡ 3 + length (searchedHere (now s) n)) × (8 * count ≤ length (now out)) ⌝ }
-    ensures { λ _. ⌜ now (out .exit) ≡ place (now (out .entry)) 24 (filterBytes (searchedHere (now (s .entry)) n)) ⌝ }
+    requires { ⌜ (length (plantedHere (now s) n) ≤ count) × (8 * count ≤ length (now out)) ⌝ }
+    ensures { λ _. ⌜ now (out .exit) ≡ placeBefore (now (out .entry)) (8 * count) (filterBytes (plantedHere (now (s .entry)) n)) ⌝ }
 {
     let d = bpf::u32_at(s, 4);
-    if n == 0 {
-        bpf::put(out, 24, bpf::give(d));
-        return;
-    }
     let m = bpf::u32_at(s, 8);
     let total = bodies::bodies_length(s, n, 16);
     let end = 8 * count;
     bodies::put_bodies(out, s, n, 16, end - 8 * total, m, d);
     put_planted(out, end, s, n, total);
-    bpf::put(out, 24, bpf::load(0));
 }
 
 // How many instructions the search form of a rule set has.
@@ -367,12 +364,10 @@ pub fn search_length(s: &[u8]) -> usize
     ensures { λ r. ⌜ r ≡ length (searchForm (setHere (now (s .entry)))) ⌝ }
 {
     let n = bpf::u32_at(s, 12);
-    if n == 0 {
-        return 4;
-    }
     let total = bodies::bodies_length(s, n, 16);
     let mut none = [0u8; 1];
-    put_planted(&mut none, 0, s, n, total) + 4
+    let behind = put_planted(&mut none, 0, s, n, total);
+    head::head_length(bpf::u32_at(s, 0), n) + behind
 }
 
 // Writes the search form of a rule set at the buffer's start. It has `count` instructions.
@@ -381,6 +376,7 @@ pub fn put_search(out: &mut [u8], s: &[u8], count: usize)
     requires { ⌜ (count ≡ length (searchForm (setHere (now s)))) × (8 * count ≤ length (now out)) ⌝ }
     ensures { λ _. ⌜ now (out .exit) ≡ place (now (out .entry)) 0 (filterBytes (searchForm (setHere (now (s .entry))))) ⌝ }
 {
-    put_searched(out, s, bpf::u32_at(s, 12), count);
-    filter::put_head(out, bpf::u32_at(s, 0));
+    let n = bpf::u32_at(s, 12);
+    put_searched(out, s, n, count);
+    head::put_head(out, bpf::u32_at(s, 0), n);
 }

@@ -18,7 +18,7 @@ pub use Rattle.definitions.proofs.Examples.Emitted.{worked}
 
 -- with nothing listed yet
 abbrev pub begun : RuleSet
-begun = started (worked .architecture) (worked .mismatch) (worked .onMatch)
+begun = started (worked .architecture) (worked .nativeOnly) (worked .mismatch) (worked .onMatch)
 
 -- what a state says, unless a call was refused
 abbrev pub Wrote : RuleSet → List ℕ → Writer → Type 0

@@ -7,7 +7,7 @@ use native.Mathlib.Omega.{arith}
 use lib.ListN.{length, take, length-append, length-take}
 use Rattle.definitions.specs.Word.{bytesOf}
 use Rattle.definitions.specs.RuleSet.{Rule, Entry, RuleSet}
-use Rattle.definitions.specs.Format.{architectureNumber, joined, encodeCondition, encodeRule, encodeEntry, encode, Each, EntryInRange}
+use Rattle.definitions.specs.Format.{headNumber, joined, encodeCondition, encodeRule, encodeEntry, encode, Each, EntryInRange}
 use Rattle.definitions.specs.Compiled.{FormOf}
 use Rattle.definitions.specs.Parts.{onLast, onEntries}
 use Rattle.theorems.proofs.Words.{length-bytes}
@@ -39,7 +39,7 @@ last-each P (y ∷ ys) x h = let more = last-each P ys x (h .1) in ((h .0, more 
 -- ---- what stands in front of a count
 
 abbrev pub heading : RuleSet → List ℕ
-heading rs = bytesOf 4 (architectureNumber (rs .architecture)) ++ (bytesOf 4 (rs .mismatch) ++ bytesOf 4 (rs .onMatch))
+heading rs = bytesOf 4 (headNumber (rs .architecture) (rs .nativeOnly)) ++ (bytesOf 4 (rs .mismatch) ++ bytesOf 4 (rs .onMatch))
 
 pub encode-entries : (rs : RuleSet) → encode rs ≡ heading rs ++ (bytesOf 4 (length (rs .entries)) ++ joined encodeEntry (rs .entries))
 unfolding encode

@@ -12,13 +12,13 @@ use Rattle.definitions.specs.declared.Condition.{Condition}
 use Rattle.definitions.specs.declared.Writer.{Writer}
 use Rattle.definitions.specs.Word.{bytesOf}
 use Rattle.definitions.specs.RuleSet.{Architecture, Rule, Entry, RuleSet, isAction}
-use Rattle.definitions.specs.Format.{architectureOf, joined, encodeCondition, encodeRule, encodeEntry, encode, Each, ConditionInRange, EntryInRange, InRange}
+use Rattle.definitions.specs.Format.{nativeOf, architectureOf, joined, encodeCondition, encodeRule, encodeEntry, encode, Each, ConditionInRange, EntryInRange, InRange}
 use Rattle.definitions.specs.Format.{isThere}
 use Rattle.definitions.specs.Parts.{onLast, onRules, started, withEntry, withRule, withCondition, conditionOf, conditionPart}
 use Rattle.definitions.specs.Writers.{noRule, lastRule, EntryAt, noEntry, lastEntry, Holds, codeFor, headGood, startCode, Started, Added}
 use Rattle.theorems.proofs.Words.{length-bytes}
 use Rattle.theorems.proofs.Tests.{some-same, then-some, both-true}
-use Rattle.theorems.proofs.Names.{architecture-forth}
+use Rattle.theorems.proofs.Names.{head-forth}
 use Rattle.theorems.proofs.Forms.{length-condition, length-rule, length-entry, short-count}
 use Rattle.bpf.specs.Place.{place}
 use Rattle.bpf.proofs.Laws.{length-place}
@@ -249,11 +249,11 @@ unfolding headBytes
 length-head a d m = simp (length-append, length-bytes)
 
 module _ (a d m : ℕ) (known : Architecture) (named : architectureOf a ≡ some known) (good : headGood a d m ≡ true) where
-  head-form : encode (started known d m) ≡ headBytes a d m
+  head-form : encode (started known (nativeOf a) d m) ≡ headBytes a d m
   unfolding encode headBytes
-  head-form = rw (architecture-forth a known named) (simp append-nil)
+  head-form = rw (head-forth a known named) (simp append-nil)
 
-  head-ranged : InRange (started known d m)
+  head-ranged : InRange (started known (nativeOf a) d m)
   unfolding headGood
   head-ranged =
       let x = both-true (isThere (architectureOf a)) (isAction d && isAction m) good in

@@ -4,6 +4,9 @@ use std::{fmt, str::FromStr};
 
 use crate::Error;
 
+/// Added to an architecture's number in a set's bytes: native numbers only.
+pub(crate) const NATIVE_ONLY: u32 = 0x100;
+
 /// The architecture that a rule set is for. A call from any other kills the process, whatever the set lists.
 ///
 /// Names are compared without case.

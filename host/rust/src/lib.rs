@@ -2,8 +2,9 @@
 //!
 //! A rule set says which system calls match: by their numbers and, with rules, by their arguments. Compiling makes it a filter of classic
 //! BPF, the bytes that seccompiler 0.5.0 makes, which returns one action for the calls that match and another for all else; or, by
-//! [`RuleSet::compile_search`], one that does the same in fewer steps. The compiler is proved: what a filter returns is what its rule set
-//! means, for every call. This crate only brings values to it and back.
+//! [`RuleSet::compile_search`], one that does the same in fewer steps. seccompiler has no [`RuleSet::native_only`], which keeps x32's calls
+//! out. The compiler is proved: what a filter returns is what its rule set means, for every call. This crate only brings values to it and
+//! back.
 //!
 //! ```
 //! use callfilter::{Action, Architecture, Call, Condition, Operator, RuleSet, Width};

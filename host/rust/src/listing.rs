@@ -44,6 +44,10 @@ fn is_equality(code: u16) -> bool {
     code == 0x15
 }
 
+fn is_bit_test(code: u16) -> bool {
+    code == 0x45
+}
+
 fn is_return(code: u16) -> bool {
     class(code) == 6
 }
@@ -99,6 +103,8 @@ enum Which {
     Is(u32),
     /// One was asked for, and it is not that one.
     Other,
+    /// It has one of these bits.
+    With(u32),
 }
 
 #[derive(Clone, Copy, PartialEq)]
@@ -120,9 +126,11 @@ impl Known {
     }
 
     fn after_question(self, answer: Which) -> Known {
+        // that it is not a certain one says less than that it has certain bits
+        let after = |before| if let (Which::With(_), Which::Other) = (before, answer) { before } else { answer };
         match self.word {
-            Some(NUMBER) => Known { number: answer, ..self },
-            Some(ARCHITECTURE) => Known { architecture: answer, ..self },
+            Some(NUMBER) => Known { number: after(self.number), ..self },
+            Some(ARCHITECTURE) => Known { architecture: after(self.architecture), ..self },
             _ => self,
         }
     }
@@ -148,6 +156,9 @@ fn ways(instruction: &sock_filter, at: usize, here: Known) -> Vec<(usize, Known)
     } else if is_equality(code) {
         let [yes, no] = targets(instruction, at);
         vec![(yes, here.after_question(Which::Is(instruction.k))), (no, here.after_question(Which::Other))]
+    } else if is_bit_test(code) {
+        let [yes, no] = targets(instruction, at);
+        vec![(yes, here.after_question(Which::With(instruction.k))), (no, here)]
     } else if is_jump(code) {
         targets(instruction, at).map(|target| (target, here)).to_vec()
     } else if changes_accumulator(code) {
@@ -192,6 +203,7 @@ fn whose(known: Known) -> String {
         (Which::Other, _) => "other architectures: ".to_owned(),
         (_, Which::Is(number)) => format!("call {number}: "),
         (_, Which::Other) => "other calls: ".to_owned(),
+        (_, Which::With(bits)) => format!("calls with a bit of {}: ", Number(u64::from(bits))),
         _ => String::new(),
     }
 }
@@ -209,7 +221,8 @@ fn question(instruction: &sock_filter, known: Known) -> String {
         "jeq" => format!("{call}="),
         "jgt" => format!("{call}>"),
         "jge" => format!("{call}≥"),
-        _ => "any bit of".to_owned(),
+        _ if call.is_empty() => "any bit of".to_owned(),
+        _ => format!("{call}with a bit of"),
     };
     format!("{asked} {}?", operand(instruction))
 }

@@ -2,6 +2,7 @@
 
 use std::iter::from_fn;
 
+use crate::architecture::NATIVE_ONLY;
 use crate::boundary::{self, Answer, Compared, Cursor};
 use crate::{Action, Architecture, Condition, Error, Filter, Operator, Place, Rule, RuleSet, Width};
 
@@ -74,9 +75,13 @@ impl Parts {
 
     /// Its error is the first condition's that cannot be made.
     fn typed(&self) -> Result<RuleSet, Error> {
-        let known = (Architecture::from_number(self.architecture), Action::from_word(self.mismatch), Action::from_word(self.on_match));
+        let architecture = Architecture::from_number(self.architecture & !NATIVE_ONLY);
+        let known = (architecture, Action::from_word(self.mismatch), Action::from_word(self.on_match));
         let (Some(architecture), Some(mismatch), Some(on_match)) = known else { return Err(Error::NotOfTheFormat) };
         let mut set = RuleSet::new(architecture, mismatch, on_match);
+        if self.architecture & NATIVE_ONLY != 0 {
+            set.native_only();
+        }
         for (entry, read) in self.entries.iter().enumerate() {
             let mut listed = set.call(read.number);
             for (rule, conditions) in read.rules.iter().enumerate() {

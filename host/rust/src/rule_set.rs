@@ -12,6 +12,7 @@ pub type Rule = Vec<Condition>;
 /// Which calls match, and which action there is for those that do and those that do not.
 ///
 /// - A call from another architecture kills the process, whatever else.
+/// - With [`native_only`](RuleSet::native_only) a call of x86_64's second table (x32) does too.
 /// - A call that is not listed gets the mismatch action.
 /// - A call that is listed without rules gets the match action.
 /// - A call that is listed with rules gets the match action if one of them has all its conditions true, else the mismatch action.
@@ -48,6 +49,7 @@ pub type Rule = Vec<Condition>;
 #[derive(Clone, Debug, PartialEq, Eq)]
 pub struct RuleSet {
     architecture: Architecture,
+    native_only: bool,
     mismatch: Action,
     on_match: Action,
     calls: BTreeMap<u32, Entry>,
@@ -63,7 +65,33 @@ struct Entry {
 impl RuleSet {
     /// A set that lists nothing yet. The two actions must differ when it is compiled.
     pub fn new(architecture: Architecture, mismatch: Action, on_match: Action) -> RuleSet {
-        RuleSet { architecture, mismatch, on_match, calls: BTreeMap::new() }
+        RuleSet { architecture, native_only: false, mismatch, on_match, calls: BTreeMap::new() }
+    }
+
+    /// Makes it a set for native numbers only.
+    ///
+    /// On x86_64 the kernel asks filters also about the calls of a second table (x32), under the same architecture word, with bit 30 set in
+    /// their numbers. In a set for native numbers only each number with that bit kills the process, whatever is listed, but for
+    /// 0xffffffff, which stands for a call that a tracer has cancelled. It takes three instructions, four where nothing is listed. The
+    /// other architectures have no second table: there it changes nothing.
+    ///
+    /// A set that lists what is refused, and lets all else pass, lets pass all of x32 without it.
+    ///
+    /// ```
+    /// use callfilter::{Action, Architecture, Call, RuleSet};
+    ///
+    /// // write is refused, and all else allowed
+    /// let mut set = RuleSet::new(Architecture::X86_64, Action::Allow, Action::Errno(1));
+    /// set.call(1);
+    /// let write_of_x32 = Call::new(Architecture::X86_64, 0x4000_0001, [0; 6]);
+    /// assert_eq!(set.decide(&write_of_x32)?, Action::Allow);
+    /// set.native_only();
+    /// assert_eq!(set.decide(&write_of_x32)?, Action::KillProcess);
+    /// # Ok::<(), callfilter::Error>(())
+    /// ```
+    pub fn native_only(&mut self) -> &mut RuleSet {
+        self.native_only = true;
+        self
     }
 
     /// Lists a call. It matches whatever its arguments are, unless it is given rules.
@@ -120,7 +148,7 @@ impl RuleSet {
     ///
     /// Numbers that follow each other, all without rules, are one span, and a number with rules is one. With at most 2<sup>k</sup> spans
     /// a run takes at most k + max(6, k) instructions and a return, and for a call with rules as many more as the other filter has for
-    /// these.
+    /// these; for native numbers only at most two more.
     ///
     /// ```
     /// use callfilter::{Action, Architecture, Call, RuleSet};
@@ -196,6 +224,20 @@ impl RuleSet {
     /// The architecture that the set is for.
     pub fn architecture(&self) -> Architecture {
         self.architecture
+    }
+
+    /// Whether it is a set for native numbers only.
+    ///
+    /// ```
+    /// use callfilter::{Action, Architecture, RuleSet};
+    ///
+    /// let mut set = RuleSet::new(Architecture::X86_64, Action::Trap, Action::Allow);
+    /// assert!(!set.is_native_only() && set.native_only().is_native_only());
+    /// assert!(RuleSet::from_bytes(&set.to_bytes()?)?.is_native_only());
+    /// # Ok::<(), callfilter::Error>(())
+    /// ```
+    pub fn is_native_only(&self) -> bool {
+        self.native_only
     }
 
     /// What becomes of a call that does not match.
@@ -281,8 +323,9 @@ impl fmt::Display for RuleSet {
     /// The set in words, a rule to a line.
     fn fmt(&self, to: &mut fmt::Formatter) -> fmt::Result {
         let elsewhere = Action::KillProcess;
-        write!(to, "on {}: {} what matches, else {}; ", self.architecture, self.on_match, self.mismatch)?;
-        write!(to, "on any other architecture: {elsewhere}")?;
+        let (only, others) = if self.native_only { (", native numbers only", " or by a number that is not native") } else { ("", "") };
+        write!(to, "on {}{only}: {} what matches, else {}; ", self.architecture, self.on_match, self.mismatch)?;
+        write!(to, "on any other architecture{others}: {elsewhere}")?;
         for (number, entry) in &self.calls {
             let both = entry.always && !entry.rules.is_empty();
             let listed = format!("call {number} matches{}", if both { " always, and" } else { "" });

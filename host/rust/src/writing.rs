@@ -1,12 +1,14 @@
 //! Rule sets written as bytes, part by part, by the proved writers.
 
+use crate::architecture::NATIVE_ONLY;
 use crate::boundary::{self, Writer};
 use crate::{Condition, Error, RuleSet};
 
 /// The bytes of a set, its calls in ascending order.
 pub(crate) fn bytes_of(set: &RuleSet) -> Result<Vec<u8>, Error> {
     let mut growing = Growing { bytes: Vec::new(), writer: Writer { code: 0, end: 0, entry: 0, rule: 0 } };
-    let (architecture, mismatch, on_match) = (set.architecture().number(), set.mismatch().word(), set.on_match().word());
+    let architecture = set.architecture().number() | if set.is_native_only() { NATIVE_ONLY } else { 0 };
+    let (mismatch, on_match) = (set.mismatch().word(), set.on_match().word());
     growing.put(|out, _| boundary::start(out, architecture, mismatch, on_match))?;
     for (number, rules) in set.calls() {
         growing.put(|out, writer| boundary::list(out, writer, number))?;

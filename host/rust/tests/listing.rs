@@ -102,6 +102,34 @@ fn a_search_compares_calls() -> Result<(), Error> {
 }
 
 #[test]
+fn a_guard_asks_for_bits_of_calls() -> Result<(), Error> {
+    let mut set = RuleSet::new(Architecture::X86_64, Action::Errno(1), Action::Allow);
+    set.native_only().call(7);
+    assert_eq!(
+        texts(&set.compile()?)[3..],
+        [
+            "ld [0] call number",
+            "jset 0x40000000 call with a bit of 0x40000000? no → 7",
+            "jeq 0xffffffff call 4294967295? yes → 7",
+            "ret 0x80000000 calls with a bit of 0x40000000: kill process",
+            "jeq 7 call 7? no → 9",
+            "ja +1 call 7: → 10",
+            "ja +2 other calls: → 12",
+            "ret 0x7fff0000 call 7: allow",
+            "ret 0x50001 never reached",
+            "ret 0x50001 other calls: errno 1",
+        ]
+    );
+    assert_eq!(
+        set.to_string(),
+        "on x86_64, native numbers only: allow what matches, else errno 1; on any other architecture or by a number that is not native: \
+         kill process
+call 7 matches"
+    );
+    Ok(())
+}
+
+#[test]
 fn arrows_meet_and_cross() {
     let drawn = filter(&[(0x15, 2, 1, 1), (0x05, 0, 0, 2), (0x15, 1, 0, 2), (0x06, 0, 0, 0), (0x06, 0, 0, 0)]).to_string();
     let gutters: Vec<String> = drawn.lines().map(|line| line.chars().take(5).collect()).collect();

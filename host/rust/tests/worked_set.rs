@@ -90,6 +90,84 @@ fn its_search_is_shorter_and_returns_the_same() {
     }
 }
 
+// the worked set for native numbers only: bit 8 of its first number, and behind the load of a call's number the guard
+const GUARD: &str = "4500000200000040 15000100ffffffff 0600000000000080";
+
+fn native_set() -> RuleSet {
+    let mut set = worked_set().unwrap();
+    set.native_only();
+    set
+}
+
+#[test]
+fn for_native_numbers_only_it_has_a_flag_and_its_filter_a_guard() {
+    let mut flagged = bytes(SET);
+    flagged[1] = 1;
+    assert_eq!(native_set().to_bytes().as_ref(), Ok(&flagged));
+    assert_eq!(RuleSet::from_bytes(&flagged), Ok(native_set()));
+    assert_ne!(native_set(), worked_set().unwrap());
+    let mut filter = bytes(FILTER);
+    filter.splice(32..32, bytes(GUARD));
+    assert_eq!(native_set().compile().unwrap().to_bytes(), filter);
+    assert_eq!(Filter::compile(&flagged).unwrap().to_bytes(), filter);
+    // the search has the same head
+    let (search, plain) = (native_set().compile_search().unwrap(), worked_set().unwrap().compile_search().unwrap());
+    assert_eq!(search.to_bytes()[..56], filter[..56]);
+    assert_eq!(search.to_bytes()[56..], plain.to_bytes()[32..]);
+    // nothing listed: the number is loaded all the same
+    let mut empty = RuleSet::new(Architecture::X86_64, Action::Errno(1), Action::Allow);
+    assert_eq!((empty.compile().unwrap().len(), empty.native_only().compile().unwrap().len()), (4, 8));
+    assert_eq!(empty.compile().unwrap().to_bytes(), [&filter[..56], &filter[filter.len() - 8..]].concat());
+    assert_eq!(empty.compile_search(), empty.compile());
+}
+
+#[test]
+fn for_native_numbers_only_numbers_with_bit_30_kill_whatever_is_listed() {
+    let mut set = native_set();
+    for number in [0x3fff_ffff, 0x4000_0000, 0x4000_0001, 0x7fff_ffff, 0x8000_0001, 0xbfff_ffff, 0xc000_0000, 0xffff_fffe] {
+        set.call(number);
+    }
+    let filters = [set.compile().unwrap(), set.compile_search().unwrap()];
+    for (number, action) in [
+        (0, Action::Allow),
+        (2, Action::Errno(1)),
+        (0x3fff_fffe, Action::Errno(1)),
+        (0x3fff_ffff, Action::Allow),
+        (0x4000_0000, Action::KillProcess),
+        (0x4000_0001, Action::KillProcess),
+        (0x4000_0002, Action::KillProcess),
+        (0x7fff_ffff, Action::KillProcess),
+        (0x8000_0000, Action::Errno(1)),
+        (0x8000_0001, Action::Allow),
+        (0xbfff_ffff, Action::Allow),
+        (0xc000_0000, Action::KillProcess),
+        (0xffff_fffe, Action::KillProcess),
+        (0xffff_ffff, Action::Errno(1)),
+    ] {
+        let call = Call::new(Architecture::X86_64, number, [0; 6]);
+        assert_eq!(set.decide(&call), Ok(action), "{number:#x}");
+        for filter in &filters {
+            assert_eq!(filter.run(&call).action(), Some(action), "{number:#x}");
+        }
+    }
+}
+
+#[test]
+fn for_native_numbers_only_other_architectures_have_the_same_filter() {
+    for architecture in [Architecture::Aarch64, Architecture::Riscv64] {
+        let mut set = RuleSet::new(architecture, Action::Errno(1), Action::Allow);
+        for number in [1, 2, 0x4000_0000, 0xffff_ffff] {
+            let (plain, search) = (set.compile(), set.compile_search());
+            let mut native = set.clone();
+            native.native_only();
+            assert_ne!(native.to_bytes(), set.to_bytes());
+            assert_eq!(RuleSet::from_bytes(&native.to_bytes().unwrap()).as_ref(), Ok(&native));
+            assert_eq!((native.compile(), native.compile_search()), (plain, search));
+            set.call(number);
+        }
+    }
+}
+
 #[test]
 fn a_search_over_many_calls_returns_what_the_set_means() {
     let mut set = RuleSet::new(Architecture::X86_64, Action::Trap, Action::Log);

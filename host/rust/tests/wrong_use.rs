@@ -187,6 +187,45 @@ fn a_filter_that_is_too_long_is_counted() {
 }
 
 #[test]
+fn a_guard_counts_into_the_length() {
+    let listing = |count: u32| {
+        let mut set = plain();
+        for number in 0..count {
+            set.call(number);
+        }
+        set
+    };
+    let native = |count: u32| {
+        let mut set = listing(count);
+        set.native_only();
+        set
+    };
+    assert_eq!((listing(818).compile().unwrap().len(), native(817).compile().unwrap().len()), (4095, 4093));
+    let refused = Error::TooManyInstructions { count: 4098, place: Some(in_entry(817, 817)) };
+    assert_eq!(native(818).compile(), Err(refused));
+    // a set that is too long is read back with its flag
+    let bytes = native(900).to_bytes().unwrap();
+    assert_eq!(Filter::compile(&bytes), Err(Error::TooManyInstructions { count: 4508, place: Some(in_entry(817, 817)) }));
+    assert!(RuleSet::from_bytes(&bytes) == Ok(native(900)));
+}
+
+#[test]
+fn what_stands_beside_the_flag_is_refused() {
+    let known = [1, 2, 3, 0x101, 0x102, 0x103];
+    let plain = plain().to_bytes().unwrap();
+    for head in (0..0x400).chain([0x1_0001, 0x1_0101, 0x100_0001, 0x100_0101, 0x8000_0101, u32::MAX]) {
+        let bytes = [&head.to_le_bytes()[..], &plain[4..]].concat();
+        match RuleSet::from_bytes(&bytes) {
+            Ok(set) => {
+                assert!(known.contains(&head), "{head:#x}");
+                assert_eq!((set.is_native_only(), set.to_bytes()), (head >= 0x100, Ok(bytes)));
+            }
+            Err(refused) => assert!(!known.contains(&head) && refused == Error::NotOfTheFormat, "{head:#x}"),
+        }
+    }
+}
+
+#[test]
 fn a_search_that_is_too_long_is_counted_without_an_entry() {
     // a span each, so that there is a question for each
     let spread = |count: u32| {

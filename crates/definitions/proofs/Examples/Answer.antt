@@ -12,15 +12,16 @@ use Rattle.definitions.specs.declared.Condition.{Condition}
 use Rattle.definitions.specs.declared.Fault.{Fault}
 use Rattle.definitions.specs.declared.Answer.{Answer}
 use Rattle.definitions.specs.Word.{bytesOf, numberOf, numberAt}
-use Rattle.definitions.specs.RuleSet.{x86-64, aarch64, architectureWord, oneOf, isAction, Rule, Entry, RuleSet}
-use Rattle.definitions.specs.Format.{architectureNumber, widthNumber, operatorNumber, encodeCondition, encodeRule, encodeEntry, encode, architectureOf, widthOf, operatorOf, maskTaken, times, conditionAt, ruleAt, entryAt, read}
+use Rattle.definitions.specs.RuleSet.{x86-64, aarch64, architectureWord, oneOf, isAction, Rule, Entry, RuleSet, guarded, hasSecondTable}
+use Rattle.definitions.specs.Format.{architectureNumber, widthNumber, operatorNumber, encodeCondition, encodeRule, encodeEntry, encode, architectureOf, widthOf, operatorOf, maskTaken, times, conditionAt, ruleAt, entryAt, read, unflagged, nativeOf, headNumber}
 use Rattle.definitions.specs.Answer.{ascending, all, codeWith, fault, nowhere, noFault, firstFailing, faultyRule, firstWith, shortWith, faultOf, answer, answerWith, answerOf}
-use Rattle.definitions.specs.Emitted.{highTests, lowTests, highPart, lowPart, conditionCode, helpers, near, stepCode, stepDistance, conditionsCode, distance, ruleCode, rulesCode, bodyCode, entryCode, entriesCode, numbersCode, emitted}
+use Rattle.definitions.specs.Emitted.{highTests, lowTests, highPart, lowPart, conditionCode, helpers, near, stepCode, stepDistance, conditionsCode, distance, ruleCode, rulesCode, bodyCode, entryCode, entriesCode, numbersCode, emitted, headCode, numberCode}
 use Rattle.definitions.proofs.Examples.RuleSet.{compared, allow, errno}
 
 -- the byte form, in full: aarch64, mismatch errno 1, match allow; number 257: argument 2 qword masked eq 4, mask 6
 spelled : encode (record {
   architecture = aarch64;
+  nativeOnly = false;
   mismatch = errno 1;
   onMatch = allow;
   entries = record { number = 257; rules = (compared MaskedEq Qword 2 4 6 ∷ []) ∷ [] } ∷ [];
@@ -29,12 +30,12 @@ spelled : encode (record {
     ∷ 1 ∷ 1 ∷ 0 ∷ 0 ∷ 1 ∷ 0 ∷ 0 ∷ 0
     ∷ 1 ∷ 0 ∷ 0 ∷ 0
     ∷ 2 ∷ 8 ∷ 5 ∷ 0 ∷ 0 ∷ 0 ∷ 0 ∷ 0 ∷ 4 ∷ 0 ∷ 0 ∷ 0 ∷ 0 ∷ 0 ∷ 0 ∷ 0 ∷ 6 ∷ 0 ∷ 0 ∷ 0 ∷ 0 ∷ 0 ∷ 0 ∷ 0 ∷ []
-unfolding encode encodeEntry encodeRule encodeCondition bytesOf architectureNumber widthNumber operatorNumber
+unfolding encode encodeEntry encodeRule encodeCondition bytesOf architectureNumber headNumber widthNumber operatorNumber
 spelled = refl
 
 -- a set with mismatch action d and some entries
 abbrev listing : ℕ → List Entry → List ℕ
-listing d es = encode (record { architecture = x86-64; mismatch = d; onMatch = allow; entries = es })
+listing d es = encode (record { architecture = x86-64; nativeOnly = false; mismatch = d; onMatch = allow; entries = es })
 
 abbrev plain : ℕ → Entry
 plain n = record { number = n; rules = [] }
@@ -63,6 +64,12 @@ table =
     ∷ row (listing (errno 1) condition) 120 0 15
     ∷ row (put (listing (errno 1) []) 0 2) 32 0 4
     ∷ row (put (listing (errno 1) []) 0 3) 32 0 4
+    -- native numbers only: four instructions more where no number was looked at, three where one was, and none where there is no second table
+    ∷ row (put (listing (errno 1) []) 1 1) 64 0 8
+    ∷ row (put (listing (errno 1) []) 1 1) 63 7 8
+    ∷ row (put (listing (errno 1) (plain 0 ∷ [])) 1 1) 104 0 13
+    ∷ row (put (put (listing (errno 1) (plain 0 ∷ [])) 0 2) 1 1) 80 0 10
+    ∷ row (put (put (listing (errno 1) []) 0 3) 1 1) 32 0 4
     -- 1: cut short, a byte left over, an unknown architecture, action, width or operator, a byte that is not zero where zero is due,
     -- a mask without masked eq, a count beyond the end
     ∷ row [] 32 1 0
@@ -70,7 +77,9 @@ table =
     ∷ row (listing (errno 1) [] ++ (0 ∷ [])) 32 1 0
     ∷ row (put (listing (errno 1) []) 0 0) 32 1 0
     ∷ row (put (listing (errno 1) []) 0 4) 32 1 0
-    ∷ row (put (listing (errno 1) []) 1 1) 32 1 0
+    ∷ row (put (put (listing (errno 1) []) 0 0) 1 1) 64 1 0
+    ∷ row (put (put (listing (errno 1) []) 0 4) 1 1) 64 1 0
+    ∷ row (put (listing (errno 1) []) 1 2) 64 1 0
     ∷ row (listing 1 []) 32 1 0
     ∷ row (put (listing (errno 1) []) 8 1) 32 1 0
     ∷ row (take 51 (listing (errno 1) condition)) 120 1 0
@@ -110,12 +119,12 @@ abbrev rowHolds : Row → Bool
 rowHolds r = let a = answerOf (r .bytes) (r .room) in eqb (a .code) (r .code) && eqb (a .count) (r .count)
 
 table-holds : all rowHolds table ≡ true
-unfolding answerOf answerWith codeWith ascending read entryAt ruleAt conditionAt times maskTaken operatorOf widthOf architectureOf isAction oneOf numberAt numberOf encode encodeEntry encodeRule encodeCondition bytesOf architectureNumber widthNumber operatorNumber architectureWord emitted numbersCode entriesCode entryCode bodyCode rulesCode ruleCode conditionsCode distance stepCode stepDistance helpers near conditionCode highPart lowPart highTests lowTests
+unfolding answerOf answerWith codeWith ascending read entryAt ruleAt conditionAt times maskTaken operatorOf widthOf architectureOf unflagged nativeOf isAction oneOf numberAt numberOf encode encodeEntry encodeRule encodeCondition bytesOf architectureNumber headNumber widthNumber operatorNumber architectureWord emitted headCode numberCode guarded hasSecondTable numbersCode entriesCode entryCode bodyCode rulesCode ruleCode conditionsCode distance stepCode stepDistance helpers near conditionCode highPart lowPart highTests lowTests
 table-holds = refl
 
 -- 6: the limit itself, by the number of instructions alone
 abbrev smallest : RuleSet
-smallest = record { architecture = x86-64; mismatch = errno 1; onMatch = allow; entries = [] }
+smallest = record { architecture = x86-64; nativeOnly = false; mismatch = errno 1; onMatch = allow; entries = [] }
 
 abbrev somewhere : Fault
 somewhere = fault 7 nowhere nowhere
@@ -167,7 +176,7 @@ faults =
 
 abbrev faultyHolds : Faulty → Bool
 faultyHolds w =
-    sameFault (faultOf somewhere (w .code) (record { architecture = x86-64; mismatch = errno 1; onMatch = allow; entries = w .entries })) (w .place)
+    sameFault (faultOf somewhere (w .code) (record { architecture = x86-64; nativeOnly = false; mismatch = errno 1; onMatch = allow; entries = w .entries })) (w .place)
 
 places : all faultyHolds faults ≡ true
 unfolding faultOf firstWith ascending faultyRule firstFailing
@@ -176,7 +185,7 @@ places = refl
 -- 4,096 instructions are short enough, one more is not: five for each number, five around them, eleven and twelve for the last
 longest : (shortWith smallest (replicate 816 (plain 0) ++ ruled (compared MaskedEq Qword 0 1 1 ∷ [])) ≡ true)
     × (shortWith smallest (replicate 816 (plain 0) ++ ruled (compared MaskedEq Dword 0 1 1 ∷ compared Eq Qword 0 1 0 ∷ [])) ≡ false)
-unfolding emitted numbersCode entriesCode entryCode bodyCode rulesCode ruleCode conditionsCode distance stepCode stepDistance helpers near conditionCode highPart lowPart highTests lowTests
+unfolding emitted headCode numberCode guarded hasSecondTable numbersCode entriesCode entryCode bodyCode rulesCode ruleCode conditionsCode distance stepCode stepDistance helpers near conditionCode highPart lowPart highTests lowTests
 longest = (refl, refl)
 
 too-long : firstWith (λ (es : List Entry). ltb (length es) 3) [] (replicate 5 (plain 0)) ≡ 2

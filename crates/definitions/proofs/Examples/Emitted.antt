@@ -13,10 +13,11 @@ use Rattle.definitions.specs.declared.Width.{Width}
 use Rattle.definitions.specs.declared.Width.the-variants.{Dword, Qword}
 use Rattle.definitions.specs.declared.Condition.{Condition}
 use Rattle.definitions.specs.Machine.{Call, Result, returns, stuck, words, fetch, codes, kindIn, kindOf, intoA, compute, testHolds, stepAs, step, run, visits, runs, steps}
-use Rattle.definitions.specs.RuleSet.{Architecture, x86-64, aarch64, riscv64, architectureWord, Rule, Entry, RuleSet, test, holds, allHold, anyHolds, matches, listed, meaning}
+use Rattle.definitions.specs.RuleSet.{Architecture, x86-64, aarch64, riscv64, architectureWord, Rule, Entry, RuleSet, test, holds, allHold, anyHolds, matches, listed, meaning, guarded, hasSecondTable, inSecondTable}
 use Rattle.definitions.specs.Answer.{all}
-use Rattle.definitions.specs.Emitted.{load, maskBy, jumpBy, ifEqual, ifGreater, ifAtLeast, return, highTests, lowTests, highPart, lowPart, conditionCode, helpers, near, stepCode, stepDistance, conditionsCode, distance, ruleCode, rulesCode, bodyCode, entryCode, entriesCode, numbersCode, emitted}
-use Rattle.definitions.proofs.Examples.RuleSet.{compared, allow, errno, call}
+use Rattle.definitions.specs.Emitted.{load, maskBy, jumpBy, ifEqual, ifGreater, ifAtLeast, ifAnyBit, return, highTests, lowTests, highPart, lowPart, conditionCode, helpers, near, stepCode, stepDistance, conditionsCode, distance, ruleCode, rulesCode, bodyCode, entryCode, entriesCode, numbersCode, emitted, headCode, numberCode}
+use Rattle.definitions.specs.Compiled.{guardSteps}
+use Rattle.definitions.proofs.Examples.RuleSet.{compared, allow, errno, callOn, call}
 
 -- ---- the worked filter
 
@@ -25,6 +26,7 @@ use Rattle.definitions.proofs.Examples.RuleSet.{compared, allow, errno,
 abbrev pub worked : RuleSet
 worked = record {
   architecture = x86-64;
+  nativeOnly = false;
   mismatch = errno 1;
   onMatch = allow;
   entries =
@@ -51,21 +53,8 @@ workedFilter =
     ∷ return allow ∷ return (errno 1) ∷ return (errno 1) ∷ []
 
 worked-emitted : emitted worked ≡ workedFilter
-unfolding emitted numbersCode entriesCode entryCode bodyCode rulesCode ruleCode conditionsCode distance stepCode stepDistance helpers near conditionCode highPart lowPart highTests lowTests architectureWord
+unfolding emitted headCode numberCode guarded hasSecondTable numbersCode entriesCode entryCode bodyCode rulesCode ruleCode conditionsCode distance stepCode stepDistance helpers near conditionCode highPart lowPart highTests lowTests architectureWord
 worked-emitted = refl
-
-abbrev elsewhere : Call
-elsewhere = record {
-  number = 0;
-  architecture = 0xc00000b7;
-  pointer = 0;
-  argument0 = 0;
-  argument1 = 0;
-  argument2 = 0;
-  argument3 = 0;
-  argument4 = 0;
-  argument5 = 0;
-}
 
 -- a call, the action that it gets, and the instructions that are run for it
 record Row : Type 0 where
@@ -87,7 +76,7 @@ table =
     ∷ row (call 257 0 (2 ^ 32) 1) allow 22
     ∷ row (call 257 0 (2 ^ 32 - 1) 2) (errno 1) 20
     ∷ row (call 2 0 0 0) (errno 1) 11
-    ∷ row elsewhere 0x80000000 3 ∷ []
+    ∷ row (callOn 0xc00000b7 0 0 0 0) 0x80000000 3 ∷ []
 
 abbrev gives : Result → ℕ → Bool
 gives (returns a) b = eqb a b
@@ -99,7 +88,7 @@ rowHolds r =
     gives (runs workedFilter (r .asked)) (r .action) && eqb (steps workedFilter (r .asked)) (r .count) && eqb (meaning worked (r .asked)) (r .action)
 
 table-holds : all rowHolds table ≡ true
-unfolding run visits step stepAs kindOf kindIn codes fetch words intoA compute testHolds meaning listed matches anyHolds allHold holds test architectureWord
+unfolding run visits step stepAs kindOf kindIn codes fetch words intoA compute testHolds meaning guarded hasSecondTable inSecondTable listed matches anyHolds allHold holds test architectureWord
 table-holds = refl
 
 -- ---- four wrong filters: each gives a call another action than its rule set means
@@ -114,7 +103,7 @@ differs w = not (gives (runs (w .filter) (w .asked)) (meaning (w .set) (w .asked
 
 -- number 1, and one condition on its argument 0
 abbrev single : Condition → RuleSet
-single q = record { architecture = x86-64; mismatch = errno 1; onMatch = allow; entries = record { number = 1; rules = (q ∷ []) ∷ [] } ∷ [] }
+single q = record { architecture = x86-64; nativeOnly = false; mismatch = errno 1; onMatch = allow; entries = record { number = 1; rules = (q ∷ []) ∷ [] } ∷ [] }
 
 -- the filter of such a set, with other code for the condition
 abbrev singleFilter : ℕ → List Instruction → List Instruction
@@ -139,18 +128,38 @@ wrongs =
     ∷ []
 
 wrongs-differ : all differs wrongs ≡ true
-unfolding run step stepAs kindOf kindIn codes fetch words intoA compute testHolds meaning listed matches anyHolds allHold holds test architectureWord
+unfolding run step stepAs kindOf kindIn codes fetch words intoA compute testHolds meaning guarded hasSecondTable inSecondTable listed matches anyHolds allHold holds test architectureWord
 wrongs-differ = refl
 
 -- ---- the smallest sets
 
 abbrev Nothing : Architecture → ℕ → Type 0
-Nothing a w = emitted (record { architecture = a; mismatch = allow; onMatch = errno 1; entries = [] })
+Nothing a w = emitted (record { architecture = a; nativeOnly = false; mismatch = allow; onMatch = errno 1; entries = [] })
     ≡ load 4 ∷ ifEqual w 1 0 ∷ return 0x80000000 ∷ return allow ∷ []
 
 nothing-listed : Nothing x86-64 0xc000003e × Nothing aarch64 0xc00000b7 × Nothing riscv64 0xc00000f3
-unfolding emitted numbersCode architectureWord
+unfolding emitted headCode numberCode guarded hasSecondTable numbersCode entriesCode architectureWord
 nothing-listed = (refl, refl, refl)
+
+-- native numbers only: a guard behind the load of the number, on x86_64 alone
+abbrev native : Architecture → List Entry → RuleSet
+native a es = record { architecture = a; nativeOnly = true; mismatch = allow; onMatch = errno 1; entries = es }
+
+guarded-numbers :
+    (emitted (native x86-64 [])
+    ≡ load 4 ∷ ifEqual 0xc000003e 1 0 ∷ return 0x80000000 ∷ load 0 ∷ ifAnyBit 0x40000000 0 2 ∷ ifEqual 0xffffffff 1 0 ∷ return 0x80000000 ∷ return allow ∷ [])
+    × (emitted (native x86-64 (record { number = 7; rules = [] } ∷ []))
+    ≡ load 4 ∷ ifEqual 0xc000003e 1 0 ∷ return 0x80000000 ∷ load 0 ∷ ifAnyBit 0x40000000 0 2 ∷ ifEqual 0xffffffff 1 0 ∷ return 0x80000000
+    ∷ ifEqual 7 0 1 ∷ jumpBy 1 ∷ jumpBy 2 ∷ return (errno 1) ∷ return allow ∷ return allow ∷ [])
+    × (emitted (native aarch64 []) ≡ load 4 ∷ ifEqual 0xc00000b7 1 0 ∷ return 0x80000000 ∷ return allow ∷ [])
+unfolding emitted headCode numberCode guarded hasSecondTable numbersCode entriesCode entryCode bodyCode architectureWord
+guarded-numbers = (refl, refl, refl)
+
+-- what it takes of a run: one instruction of a native number, two of one with bit 30, and none where there is no guard
+guard-taken : (guardSteps (native x86-64 []) (call 7 0 0 0) ≡ 1) × (guardSteps (native x86-64 []) (call 0xffffffff 0 0 0) ≡ 2)
+    × (guardSteps (native aarch64 []) (call 0xffffffff 0 0 0) ≡ 0) × (guardSteps worked (call 7 0 0 0) ≡ 0)
+unfolding guarded hasSecondTable
+guard-taken = (refl, refl, refl, refl)
 
 -- the value is cut by the mask
 masked-value : conditionCode (compared MaskedEq Dword 0 36 4) 1 ≡ load 16 ∷ maskBy 4 ∷ ifEqual 4 0 1 ∷ []
@@ -231,6 +240,7 @@ at-reach = (refl, refl)
 abbrev long : RuleSet
 long = record {
   architecture = x86-64;
+  nativeOnly = false;
   mismatch = errno 1;
   onMatch = allow;
   entries = record { number = 1; rules = ((compared Eq Qword 0 0 0 ∷ replicate 41 masked) ++ (compared Eq Dword 1 0 0 ∷ replicate 41 masked) ++ (compared Eq Dword 2 0 0 ∷ [])) ∷ [] } ∷ [];
@@ -240,5 +250,5 @@ abbrev agrees : Call → Bool
 agrees c = gives (runs (emitted long) c) (meaning long c)
 
 long-agrees : all agrees (call 1 0 0 0 ∷ call 1 4 0 0 ∷ call 1 0 1 0 ∷ call 1 0 0 1 ∷ call 2 0 0 0 ∷ []) ≡ true
-unfolding run step stepAs kindOf kindIn codes fetch words intoA compute testHolds meaning listed matches anyHolds allHold holds test architectureWord emitted numbersCode entriesCode entryCode bodyCode rulesCode ruleCode conditionsCode distance stepCode stepDistance helpers near conditionCode highPart lowPart highTests lowTests
+unfolding run step stepAs kindOf kindIn codes fetch words intoA compute testHolds meaning guarded hasSecondTable inSecondTable listed matches anyHolds allHold holds test architectureWord emitted headCode numberCode numbersCode entriesCode entryCode bodyCode rulesCode ruleCode conditionsCode distance stepCode stepDistance helpers near conditionCode highPart lowPart highTests lowTests
 long-agrees = refl

@@ -1,7 +1,7 @@
 -- Examples of Outcome, by computation: a call as bytes, what is answered for whole runs, and for rule sets.
 use mathlib.Core.Path.{_≡_, refl}
 use mathlib.Core.List.{List, [], _∷_, _++_}
-use mathlib.Core.Bool.{Bool, true, _&&_}
+use mathlib.Core.Bool.{Bool, true, _&&_, false}
 use Prim.Native.Nat.{ℕ, _+_, _^_}
 use lib.Dec.{eqb}
 use lib.ListN.{take, replicate, set as put}
@@ -11,8 +11,8 @@ use Rattle.definitions.specs.Word.{bytesOf, numberOf, numberAt}
 use Rattle.definitions.specs.Machine.{instructionBytes, filterBytes, instructionAt, instructionsAt, filterOf, callOf, words, fetch, codes, kindIn, kindOf, intoA, compute, testHolds, stepAs, step, run, visits}
 use Rattle.definitions.specs.Kernel.{constantTaken, operandTaken, takenAs, eachTaken, effectAs, effectOf, isReturn, endsInReturn, scratchNext, scratchTaken, accepts, acceptsBytes}
 use Rattle.definitions.specs.Emitted.{load, ifEqual, return}
-use Rattle.definitions.specs.RuleSet.{x86-64, architectureWord, Rule, Entry, killProcess, oneOf, isAction, test, holds, allHold, anyHolds, matches, listed, meaning}
-use Rattle.definitions.specs.Format.{architectureNumber, widthNumber, operatorNumber, encodeCondition, encodeRule, encodeEntry, encode, architectureOf, widthOf, operatorOf, maskTaken, times, conditionAt, ruleAt, entryAt, read}
+use Rattle.definitions.specs.RuleSet.{x86-64, architectureWord, Rule, Entry, killProcess, oneOf, isAction, test, holds, allHold, anyHolds, matches, listed, meaning, guarded, hasSecondTable, inSecondTable}
+use Rattle.definitions.specs.Format.{architectureNumber, widthNumber, operatorNumber, encodeCondition, encodeRule, encodeEntry, encode, architectureOf, widthOf, operatorOf, maskTaken, times, conditionAt, ruleAt, entryAt, read, unflagged, nativeOf, headNumber}
 use Rattle.definitions.specs.Answer.{ascending, all, codeWith}
 use Rattle.definitions.proofs.Examples.RuleSet.{compared, allow, errno}
 use Rattle.definitions.specs.Outcome.{outcomeOf, decidedOf}
@@ -42,7 +42,7 @@ answers = (refl, refl, refl, refl)
 
 -- mismatch action d; number 7 with one rule
 abbrev ruled : ℕ → Rule → List ℕ
-ruled d r = encode (record { architecture = x86-64; mismatch = d; onMatch = allow; entries = record { number = 7; rules = r ∷ [] } ∷ [] })
+ruled d r = encode (record { architecture = x86-64; nativeOnly = false; mismatch = d; onMatch = allow; entries = record { number = 7; rules = r ∷ [] } ∷ [] })
 
 abbrev plain : ℕ → Entry
 plain n = record { number = n; rules = [] }
@@ -70,7 +70,7 @@ table =
     ∷ row (ruled (errno 1) (least 0)) (put call 4 0) 0 killProcess
     -- 1 to 5 and 8 as compiling answers
     ∷ row [] call 1 0
-    ∷ row (encode (record { architecture = x86-64; mismatch = errno 1; onMatch = allow; entries = plain 7 ∷ plain 7 ∷ [] })) call 2 0
+    ∷ row (encode (record { architecture = x86-64; nativeOnly = false; mismatch = errno 1; onMatch = allow; entries = plain 7 ∷ plain 7 ∷ [] })) call 2 0
     ∷ row (ruled allow (least 0)) call 3 0
     ∷ row (ruled (errno 1) []) call 4 0
     ∷ row (ruled (errno 1) (compared Ge Qword 6 0 0 ∷ [])) call 5 0
@@ -84,5 +84,5 @@ abbrev rowHolds : Row → Bool
 rowHolds r = let o = decidedOf (r .set) (r .asked) in eqb (o .code) (r .code) && eqb (o .action) (r .action) && eqb (o .steps) 0
 
 decisions : all rowHolds table ≡ true
-unfolding decidedOf codeWith ascending read entryAt ruleAt conditionAt times maskTaken operatorOf widthOf architectureOf isAction oneOf numberAt numberOf encode encodeEntry encodeRule encodeCondition bytesOf architectureNumber widthNumber operatorNumber architectureWord meaning listed matches anyHolds allHold holds test
+unfolding decidedOf codeWith ascending read entryAt ruleAt conditionAt times maskTaken operatorOf widthOf architectureOf unflagged nativeOf isAction oneOf numberAt numberOf encode encodeEntry encodeRule encodeCondition bytesOf architectureNumber headNumber widthNumber operatorNumber architectureWord meaning guarded hasSecondTable inSecondTable listed matches anyHolds allHold holds test
 decisions = refl

@@ -10,7 +10,7 @@ use Rattle.definitions.specs.declared.Width.{Width}
 use Rattle.definitions.specs.declared.Width.the-variants.{Dword, Qword}
 use Rattle.definitions.specs.declared.Condition.{Condition}
 use Rattle.definitions.specs.Machine.{Call}
-use Rattle.definitions.specs.RuleSet.{Entry, x86-64, architectureWord, Rule, RuleSet, oneOf, isAction, test, holds, allHold, anyHolds, matches, listed, meaning, spanCount, rulesOf}
+use Rattle.definitions.specs.RuleSet.{Architecture, Entry, x86-64, aarch64, riscv64, killProcess, architectureWord, Rule, RuleSet, oneOf, isAction, test, holds, allHold, anyHolds, matches, listed, meaning, spanCount, rulesOf, guarded, hasSecondTable, inSecondTable}
 use Rattle.definitions.specs.Answer.{all}
 
 abbrev pub compared : Operator → Width → ℕ → ℕ → ℕ → Condition
@@ -22,11 +22,11 @@ allow = 0x7fff0000
 abbrev pub errno : ℕ → ℕ
 errno n = 0x00050000 + n
 
--- a call on x86-64: number, first three arguments
-abbrev pub call : ℕ → ℕ → ℕ → ℕ → Call
-call n a b c = record {
+-- a call: architecture, number, first three arguments
+abbrev pub callOn : ℕ → ℕ → ℕ → ℕ → ℕ → Call
+callOn w n a b c = record {
   number = n;
-  architecture = 0xc000003e;
+  architecture = w;
   pointer = 0;
   argument0 = a;
   argument1 = b;
@@ -35,6 +35,10 @@ call n a b c = record {
   argument4 = 0;
   argument5 = 0;
 }
+
+-- on x86-64
+abbrev pub call : ℕ → ℕ → ℕ → ℕ → Call
+call = callOn 0xc000003e
 
 -- ---- does an operator hold below, at and above a value
 
@@ -86,11 +90,55 @@ indexed = (refl, refl)
 -- ---- why `Grown` asks for an entry that has rules: a rule added to one without takes matches away
 
 abbrev one : List Rule → RuleSet
-one rs = record { architecture = x86-64; mismatch = errno 1; onMatch = allow; entries = record { number = 1; rules = rs } ∷ [] }
+one rs = record { architecture = x86-64; nativeOnly = false; mismatch = errno 1; onMatch = allow; entries = record { number = 1; rules = rs } ∷ [] }
 
 unruled-shrinks : (meaning (one []) (call 1 2 0 0) ≡ allow) × (meaning (one ((compared Eq Dword 0 1 0 ∷ []) ∷ [])) (call 1 2 0 0) ≡ errno 1)
-unfolding meaning listed matches anyHolds allHold holds test architectureWord
+unfolding meaning guarded hasSecondTable inSecondTable listed matches anyHolds allHold holds test architectureWord
 unruled-shrinks = (refl, refl)
+
+-- ---- numbers of the second table: those with bit 30, but for the last
+
+second-table : (all inSecondTable ((2 ^ 30) ∷ (2 ^ 30 + 1) ∷ (2 ^ 31 - 1) ∷ (2 ^ 31 + 2 ^ 30) ∷ (2 ^ 32 - 2) ∷ []) ≡ true)
+    × (all (λ (n : ℕ). not (inSecondTable n)) (0 ∷ (2 ^ 30 - 1) ∷ (2 ^ 31) ∷ (2 ^ 31 + 2 ^ 30 - 1) ∷ (2 ^ 32 - 1) ∷ []) ≡ true)
+unfolding inSecondTable
+second-table = (refl, refl)
+
+-- a set that allows whatever it does not list, and lists a number of either table
+abbrev serving : Architecture → Bool → RuleSet
+serving a native = record {
+  architecture = a;
+  nativeOnly = native;
+  mismatch = allow;
+  onMatch = errno 1;
+  entries = record { number = 1; rules = [] } ∷ record { number = 2 ^ 30 + 1; rules = [] } ∷ [];
+}
+
+-- number, and what is meant without the flag and with it
+record Served : Type 0 where
+  number : ℕ
+  without : ℕ
+  under : ℕ
+
+abbrev served : ℕ → ℕ → ℕ → Served
+served n a b = record { number = n; without = a; under = b }
+
+-- a listed number of the second table is dead under the flag; a cancelled call, and bit 31, are as without
+abbrev servings : List Served
+servings =
+    served 1 (errno 1) (errno 1) ∷ served 2 allow allow ∷ served (2 ^ 30) allow killProcess ∷ served (2 ^ 30 + 1) (errno 1) killProcess
+    ∷ served (2 ^ 31) allow allow ∷ served (2 ^ 31 + 2 ^ 30) allow killProcess ∷ served (2 ^ 32 - 1) allow allow ∷ []
+
+abbrev means : Architecture → ℕ → Served → Bool
+means a w s = eqb (meaning (serving a false) (callOn w (s .number) 0 0 0)) (s .without) && eqb (meaning (serving a true) (callOn w (s .number) 0 0 0)) (s .under)
+
+-- on the others it changes nothing
+abbrev unmoved : Architecture → ℕ → Served → Bool
+unmoved a w s = eqb (meaning (serving a true) (callOn w (s .number) 0 0 0)) (s .without)
+
+native-only : (all (means x86-64 0xc000003e) servings ≡ true) × (all (unmoved aarch64 0xc00000b7) servings ≡ true)
+    × (all (unmoved riscv64 0xc00000f3) servings ≡ true)
+unfolding meaning guarded hasSecondTable inSecondTable listed matches architectureWord
+native-only = (refl, refl, refl)
 
 -- ---- action words
 

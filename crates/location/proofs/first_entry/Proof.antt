@@ -13,16 +13,16 @@ use Rattle.location.proofs.first_entry.Statement.{statement}
 use Rattle.location.proofs.first_entry.Tie as tie
 
 abbrev Inv-loop : tie.InvT-loop
-Inv-loop s n code carried₀ at₀ entry₀ carried at entry =
-    (entry + firstBy code carried (entriesHere s (n - entry) at) ≡ firstBy code 0 (entriesHere s n 16))
+Inv-loop s n code first carried₀ at₀ entry₀ carried at entry =
+    (entry + firstBy code carried (entriesHere s (n - entry) at) ≡ firstBy code first (entriesHere s n 16))
     × (entry ≤ n) × (entriesPast s entry 16 ≡ at) × (carried ≤ 4294967296)
 
 abbrev μ-loop : tie.MeasureT-loop
-μ-loop s n code carried₀ at₀ entry₀ carried at entry = n - entry
+μ-loop s n code first carried₀ at₀ entry₀ carried at entry = n - entry
 
 loop-holds : tie.Need-loop-holds Inv-loop μ-loop
 unfolding entriesPast
-loop-holds c = (omega (arith, ap (λ (k : ℕ). firstBy (c .before .args .code) 0 (entriesHere (now (c .before .args .s)) k 16)) (whole (c .before .args .n))), omega arith, refl, omega arith)
+loop-holds c = (omega (arith, ap (λ (k : ℕ). firstBy (c .before .args .code) (c .before .args .first) (entriesHere (now (c .before .args .s)) k 16)) (whole (c .before .args .n))), omega arith, refl, omega (arith, c .before .pre .2))
 
 try-entry-requires : tie.Need-try-entry-requires Inv-loop μ-loop
 try-entry-requires c κs =

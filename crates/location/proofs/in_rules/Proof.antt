@@ -7,7 +7,8 @@ use Rattle.definitions.specs.Answer.{fault}
 use Rattle.rule.specs.At.{conditionsHere}
 use Rattle.filter.specs.At.{entriesHere}
 use Rattle.location.proofs.Firsts.{faulty-none}
-use Rattle.location.proofs.Laws.{entries-many, entry-found}
+use Rattle.filter.proofs.Laws.{entries-many}
+use Rattle.location.proofs.Laws.{entry-found}
 use Rattle.location.proofs.in_rules.Statement.{statement}
 use Rattle.location.proofs.in_rules.Tie as tie
 

@@ -4,6 +4,10 @@ use native.Mathlib.Omega.{arith}
 use borrow.Author.Needs.{needs}
 use denote.Ref.{now}
 use Rattle.definitions.specs.Answer.{fault, nowhere}
+use Rattle.definitions.specs.Word.{numberAt}
+use Rattle.definitions.specs.RuleSet.{guarded}
+use Rattle.theorems.proofs.Heads.{length-head}
+use Rattle.head.specs.Named.{namedArchitecture, guardsBy}
 use Rattle.filter.specs.At.{setHere}
 use Rattle.location.proofs.Firsts.{at-number, at-length, at-rule, at-index, at-width, at-none}
 use Rattle.location.proofs.locate.Statement.{statement}
@@ -13,7 +17,7 @@ u32-at-requires : tie.Need-u32-at-requires
 u32-at-requires c κs = search needs
 
 first-entry-requires : tie.Need-first-entry-requires
-first-entry-requires c κs = rw (c .before .u32-at .ensures) (c .before .before .before .pre .2, c .before .before .before .pre .1)
+first-entry-requires c κs = rw (c .before .u32-at .ensures) (c .before .before .before .pre .2, c .before .before .before .pre .1, omega arith)
 
 fault-requires : tie.Need-fault-requires
 fault-requires c κs = search needs
@@ -38,17 +42,28 @@ returns-3 : tie.Need-returns-3
 unfolding setHere
 returns-3 c = rw (c .before .before .before .before .u32-at .ensures) at (c .in-rules2 .ensures) ∙ sym (at-index (setHere (now (c .before .before .before .before .before .before .args .s))) (c .before .before .before .before .before .before .args .code) (c .before .if3 .taken))
 
+u32-at-requires-2 : tie.Need-u32-at-requires-2
+u32-at-requires-2 c κs = search needs
+
+head-length-requires : tie.Need-head-length-requires
+head-length-requires c κs = search needs
+
+add-around : tie.Need-add-around
+add-around c = search needs
+
 first-entry-requires-2 : tie.Need-first-entry-requires-2
-first-entry-requires-2 c κs = rw (c .before .before .before .before .u32-at .ensures) (c .before .before .before .before .before .before .pre .2, c .before .before .before .before .before .before .pre .1)
+first-entry-requires-2 c κs = rw (c .before .before .before .before .before .before .u32-at .ensures) (c .before .before .before .before .before .before .before .before .pre .2, c .before .before .before .before .before .before .before .before .pre .1, omega (arith, c .head-length .ensures .1))
 
 fault-requires-2 : tie.Need-fault-requires-2
 fault-requires-2 c κs = search needs
 
 returns-4 : tie.Need-returns-4
-unfolding setHere
+unfolding setHere guarded guardsBy
 returns-4 c =
-    let index = rw (c .before .before .before .before .before .before .u32-at .ensures) at (c .before .first-entry2 .ensures .0) in
-    c .fault2 .ensures ∙ ap (λ i. fault i nowhere nowhere) index ∙ sym (at-length (setHere (now (c .before .before .before .before .before .before .before .before .args .s))) (c .before .before .before .before .before .before .before .before .args .code) (c .before .before .if4 .taken))
+    let u = numberAt 4 (now (c .before .before .before .before .before .before .before .before .before .before .args .s)) 0 in
+    let front = rw (c .before .before .before .u32-at2 .ensures) at (c .before .before .head-length .ensures .0) ∙ length-head (namedArchitecture u) (guardsBy u) 1 in
+    let index = rw (c .before .before .before .before .before .before .before .before .u32-at .ensures, front) at (c .before .first-entry2 .ensures .0) in
+    c .fault2 .ensures ∙ ap (λ i. fault i nowhere nowhere) index ∙ sym (at-length (setHere (now (c .before .before .before .before .before .before .before .before .before .before .args .s))) (c .before .before .before .before .before .before .before .before .before .before .args .code) (c .before .before .before .before .if4 .taken))
 
 in-rules-requires-3 : tie.Need-in-rules-requires-3
 in-rules-requires-3 c κs = rw (c .before .before .before .before .before .u32-at .ensures) (c .before .before .before .before .before .before .before .pre .2, c .before .before .before .before .before .before .before .pre .1, (λ e. omega (arith, c .if5 .taken)), (λ e. omega (arith, c .if5 .taken)))
@@ -75,6 +90,9 @@ locate-spec =
     returns-2
     in-rules-requires-2
     returns-3
+    u32-at-requires-2
+    head-length-requires
+    add-around
     first-entry-requires-2
     fault-requires-2
     returns-4

@@ -43,9 +43,6 @@ add-count c = omega (arith, small c)
 add-count-2 : tie.Need-add-count-2
 add-count-2 c = omega (arith, small c)
 
-add-t14 : tie.Need-add-t14
-add-t14 c = omega (arith, small c)
-
 returns : tie.Need-returns
 unfolding entryHere
 returns c =
@@ -110,7 +107,6 @@ try-entry-spec =
     body-length-requires
     add-count
     add-count-2
-    add-t14
     returns
     u32-at-requires-2
     cast-number

@@ -4,9 +4,11 @@ use native.Mathlib.Omega.{arith}
 use borrow.Author.Tests.{le-leb, lt-leb, eq-eqb, ne-eqb, not-true, not-false}
 use denote.Ref.{now}
 use Prim.Native.Nat.{ℕ}
+use Rattle.theorems.proofs.Heads.{length-head}
+use Rattle.head.specs.Named.{namedArchitecture, guardsBy}
 use Rattle.ruleset.specs.declared.Scan.{Scan}
 use Rattle.ruleset.specs.Scan.{setFrom}
-use Rattle.ruleset.proofs.Laws.{set-from, filter-small}
+use Rattle.ruleset.proofs.Laws.{set-from}
 use borrow.Author.Needs.{needs}
 use Rattle.ruleset.proofs.scan_set.Statement.{statement}
 use Rattle.ruleset.proofs.scan_set.Tie as tie
@@ -63,16 +65,27 @@ unfolding setFrom
 returns-5 c =
     (c .not-there5 .ensures ∙ sym (set-from (now (c .before .before .before .before .before .before .before .before .before .before .before .before .args .s)) ∙ rw (le-leb _ _ (c .before .before .before .before .before .before .before .before .before .before .if1 .left), le-leb _ _ (c .before .before .before .before .before .before .before .before .before .if2 .left), ← c .before .before .before .before .before .before .before .before .head-there .ensures, not-false (c .before .before .before .before .before .before .before .before .head-there .result) (c .before .before .before .before .before .before .before .if3 .left), ← c .before .before .before .before .before .before .u32-at .ensures, ← c .before .before .before .before .before .scan-entries .ensures .same, not-false (c .before .before .before .before .before .scan-entries .result .ok) (c .before .before .before .if4 .left), ne-eqb _ _ (c .before .if5 .taken))), omega (arith, ap count (c .not-there5 .ensures)))
 
-filter-length-requires : tie.Need-filter-length-requires
-filter-length-requires c κs = omega (arith, c .before .before .before .before .scan-entries .ensures .inside (not-false (c .before .before .before .before .scan-entries .result .ok) (c .before .before .if4 .left)))
+u32-at-requires-2 : tie.Need-u32-at-requires-2
+u32-at-requires-2 c κs = search needs
+
+head-length-requires : tie.Need-head-length-requires
+head-length-requires c κs = search needs
+
+add-t9 : tie.Need-add-t9
+add-t9 c = omega (arith, c .before .head-length .ensures .1, c .before .before .before .before .before .before .before .scan-entries .ensures .inside (not-false (c .before .before .before .before .before .before .before .scan-entries .result .ok) (c .before .before .before .before .before .if4 .left)))
+
+add-t10 : tie.Need-add-t10
+add-t10 c = omega (arith, c .before .head-length .ensures .1, c .before .before .before .before .before .before .before .scan-entries .ensures .inside (not-false (c .before .before .before .before .before .before .before .scan-entries .result .ok) (c .before .before .before .before .before .if4 .left)))
 
 returns-6 : tie.Need-returns-6
 unfolding setFrom
 returns-6 c =
-    let ok = not-false (c .before .before .before .before .before .scan-entries .result .ok) (c .before .before .before .if4 .left) in
-    let in-bytes = c .before .before .before .before .before .scan-entries .ensures .inside ok in (
-      sym (set-from (now (c .before .before .before .before .before .before .before .before .before .before .before .before .args .s)) ∙ rw (le-leb _ _ (c .before .before .before .before .before .before .before .before .before .before .if1 .left), le-leb _ _ (c .before .before .before .before .before .before .before .before .before .if2 .left), ← c .before .before .before .before .before .before .before .before .head-there .ensures, not-false (c .before .before .before .before .before .before .before .before .head-there .result) (c .before .before .before .before .before .before .before .if3 .left), ← c .before .before .before .before .before .before .u32-at .ensures, ← c .before .before .before .before .before .scan-entries .ensures .same, ok, eq-eqb _ _ (c .before .if5 .left), ← c .filter-length .ensures)),
-      omega (arith, c .filter-length .ensures, filter-small (c .before .before .before .before .before .before .u32-at .result) (c .before .before .before .before .before .scan-entries .result .count)),
+    let ok = not-false (c .before .before .before .before .before .before .before .scan-entries .result .ok) (c .before .before .before .before .before .if4 .left) in
+    let in-bytes = c .before .before .before .before .before .before .before .scan-entries .ensures .inside ok in
+    let u = c .before .before .u32-at2 .result in
+    let front = c .before .head-length .ensures .0 ∙ length-head (namedArchitecture u) (guardsBy u) (c .before .before .before .before .before .before .before .before .u32-at .result) in (
+      sym (set-from (now (c .before .before .before .before .before .before .before .before .before .before .before .before .before .before .args .s)) ∙ rw (le-leb _ _ (c .before .before .before .before .before .before .before .before .before .before .before .before .if1 .left), le-leb _ _ (c .before .before .before .before .before .before .before .before .before .before .before .if2 .left), ← c .before .before .before .before .before .before .before .before .before .before .head-there .ensures, not-false (c .before .before .before .before .before .before .before .before .before .before .head-there .result) (c .before .before .before .before .before .before .before .before .before .if3 .left), ← c .before .before .before .before .before .before .before .before .u32-at .ensures, ← c .before .before .before .before .before .before .before .scan-entries .ensures .same, ok, eq-eqb _ _ (c .before .before .before .if5 .left), ← c .before .before .u32-at2 .ensures, ← front)),
+      omega (arith, c .before .head-length .ensures .1),
     )
 
 pub scan-set-spec : {M : Type 1} → statement M
@@ -92,5 +105,8 @@ scan-set-spec =
     returns-4
     not-there-requires-5
     returns-5
-    filter-length-requires
+    u32-at-requires-2
+    head-length-requires
+    add-t9
+    add-t10
     returns-6)

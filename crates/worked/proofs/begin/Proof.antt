@@ -1,7 +1,7 @@
 -- `begin` meets its contract: it is the writers' own.
 use mathlib.Core.Path.{refl}
 use Rattle.definitions.specs.RuleSet.{x86-64}
-use Rattle.definitions.specs.Format.{architectureOf}
+use Rattle.definitions.specs.Format.{nativeOf, unflagged, architectureOf}
 use borrow.Author.Needs.{needs}
 use Rattle.worked.proofs.begin.Statement.{statement}
 use Rattle.worked.proofs.begin.Tie as tie
@@ -13,7 +13,7 @@ same-length : tie.Need-same-length
 same-length c = search needs
 
 returns : tie.Need-returns
-unfolding architectureOf
+unfolding architectureOf unflagged nativeOf
 returns c = λ z. c .before .before .callfilter-start .ensures .taken z x86-64 refl
 
 pub begin-spec : {M : Type 1} → statement M

@@ -1,9 +1,9 @@
--- `put_head` meets its contract: what it has put is the three instructions. Assumes nothing.
+-- `put_architecture` meets its contract: what it has put is the three instructions. Assumes nothing.
 use borrow.Author.Needs.{needs}
 use native.Mathlib.Omega.{arith}
 use Rattle.bpf.proofs.Laws.{put-3}
-use Rattle.filter.proofs.put_head.Statement.{statement}
-use Rattle.filter.proofs.put_head.Tie as tie
+use Rattle.head.proofs.put_architecture.Statement.{statement}
+use Rattle.head.proofs.put_architecture.Tie as tie
 
 load-requires : tie.Need-load-requires
 load-requires c κs = search needs
@@ -34,8 +34,8 @@ returns c =
     rw (c .before .before .put3 .ensures, c .before .before .before .before .before .before .before .put2 .ensures, c .before .before .before .before .before .before .before .before .before .before .before .before .before .put .ensures, c .before .before .before .before .before .before .before .before .before .before .before .before .before .before .load .ensures, c .before .before .before .before .before .before .before .before .if-equal .ensures, c .before .before .before .before .before .before .before .before .before .architecture-word .ensures, c .before .before .before .give .ensures)
     (put-3 _ _ _ _ _ (omega arith))
 
-pub put-head-spec : {M : Type 1} → statement M
-put-head-spec =
+pub put-architecture-spec : {M : Type 1} → statement M
+put-architecture-spec =
     tie.close
     (tie.spec
     load-requires
