@@ -89,7 +89,7 @@ typedef struct {
 callfilter_answer callfilter_compile(const uint8_t *set, size_t set_len, uint8_t *out, size_t out_len);
 
 /* The same, but for the bytes: a binary search, never longer than that filter, so that every set is compiled that callfilter_compile takes.
- * With up to 2^k spans (a number with rules, or a row without) a run takes at most k + max(6, k) + 1 instructions, and guard's and rules'. */
+ * With at most 2^k spans (a number with rules, or a row without) a run takes k + max(6, k) + 1 instructions at most, beside guard and rules. */
 callfilter_answer callfilter_compile_search(const uint8_t *set, size_t set_len, uint8_t *out, size_t out_len);
 
 /* ---- writing a rule set part by part */

@@ -6,9 +6,9 @@
 --   condition  24 bytes  index, width (4 or 8), operator, one byte each; 5 zero bytes; value (8); mask (8; zero unless masked eq)
 --
 -- The reader needs no belief: theorem `formatted` says that it reads exactly what `encode` writes of rule sets in range.
-use Prim.Native.Nat.{ℕ, zero, suc, _+_, _-_, _^_, _/_, _≤_, _<_}
+use Prim.Native.Nat.{ℕ, zero, suc, _+_, _-_, _^_, _≤_, _<_}
 use mathlib.Core.Path.{_≡_}
-use mathlib.Core.Bool.{Bool, true, false, cond, not, _&&_, _||_}
+use mathlib.Core.Bool.{Bool, true, false, cond, _&&_}
 use mathlib.Core.List.{List, [], _∷_, _++_}
 use mathlib.Core.Option.{Option, none, some}
 use lib.Dec.{eqb, leb}

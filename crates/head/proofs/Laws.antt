@@ -10,12 +10,12 @@ use lib.Dec.{eqb}
 use lib.ListN.{length}
 use Rattle.definitions.specs.declared.Instruction.{Instruction}
 use Rattle.definitions.specs.Machine.{instructionBytes, filterBytes}
-use Rattle.definitions.specs.RuleSet.{Architecture, x86-64, aarch64, riscv64, architectureWord, RuleSet, guarded, killProcess}
-use Rattle.definitions.specs.Format.{nativeOf, unflagged, architectureOf}
+use Rattle.definitions.specs.RuleSet.{Architecture, x86-64, aarch64, riscv64, architectureWord, killProcess}
+use Rattle.definitions.specs.Format.{unflagged, architectureOf}
 use Rattle.definitions.specs.Emitted.{load, ifEqual, return, guard, numberCode, headCode}
 use Rattle.bpf.specs.Place.{place}
 use Rattle.bpf.proofs.Laws.{put-first, puts-append}
-use Rattle.head.specs.Named.{namedArchitecture, guardsBy}
+use Rattle.head.specs.Named.{namedArchitecture}
 
 -- the test of the architecture
 abbrev pub tested : Architecture → List Instruction
@@ -63,7 +63,3 @@ architecture-by false false false w h = cc
 pub architecture-agrees : (n : ℕ) (w : Architecture) → architectureOf n ≡ some w → w ≡ namedArchitecture n
 unfolding architectureOf namedArchitecture
 architecture-agrees n w h = architecture-by (eqb (unflagged n) 1) (eqb (unflagged n) 2) (eqb (unflagged n) 3) w h
-
-pub guards-agree : (n : ℕ) (rs : RuleSet) → architectureOf n ≡ some (rs .architecture) → rs .nativeOnly ≡ nativeOf n → guarded rs ≡ guardsBy n
-unfolding guarded guardsBy
-guards-agree n rs a f = rw (architecture-agrees n (rs .architecture) a, f)

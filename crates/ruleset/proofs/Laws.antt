@@ -29,7 +29,7 @@ use Rattle.rule.specs.At.{conditionsHere, rulesHere}
 use Rattle.rule.proofs.Agree.{conditions-agree, rules-agree}
 use Rattle.ruleset.specs.declared.Scan.{Scan}
 use Rattle.ruleset.specs.declared.Turn.{Turn}
-use Rattle.ruleset.specs.Scan.{conditionTaken, notThere, Scanned, conditionsScan, ruleScan, ruleFrom, rulesScan, bodyOr, entryScan, entryFrom, ascendingFrom, entriesScan, plainThere, turnFrom, Turned, headTaken, setScan, setFrom}
+use Rattle.ruleset.specs.Scan.{conditionTaken, notThere, Scanned, conditionsScan, ruleScan, ruleFrom, rulesScan, bodyOr, entryScan, entryFrom, ascendingFrom, entriesScan, plainThere, turnFrom, headTaken, setScan, setFrom}
 
 -- ---- whether a condition stands at a place
 

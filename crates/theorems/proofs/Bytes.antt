@@ -1,18 +1,15 @@
 -- BYTES: the bytes of a filter stand for that filter, so right, taken and once hold of the bytes.
-use mathlib.Core.Path.{_≡_, refl, ap, ap₂, sym, _∙_}
-use mathlib.Core.Bool.{true}
+use mathlib.Core.Path.{_≡_, refl, ap, ap₂}
 use mathlib.Core.List.{List, [], _∷_, _++_, append-assoc}
-use Prim.Native.Nat.{ℕ, zero, suc, _+_, _*_, _/_, _%_, _^_, _≤_, _<_}
+use Prim.Native.Nat.{ℕ, zero, suc, _+_, _*_, _/_, _%_}
 use native.Mathlib.Omega.{arith}
-use lib.ListN.{length, getD, length-append}
+use lib.ListN.{length, length-append}
 use borrow.Author.Tests.{eq-eqb}
 use Rattle.definitions.specs.declared.Instruction.{Instruction}
 use Rattle.definitions.specs.Word.{bytesOf, numberAt}
-use Rattle.definitions.specs.Machine.{instructionBytes, filterBytes, instructionAt, instructionsAt, filterOf, Call, returns, runs, visits, steps, start, Climbs}
-use Rattle.definitions.specs.Kernel.{accepts, acceptsBytes}
-use Rattle.definitions.specs.RuleSet.{RuleSet, meaning}
-use Rattle.definitions.specs.Format.{Each, InRange}
-use Rattle.definitions.specs.Answer.{indicesTaken}
+use Rattle.definitions.specs.Machine.{instructionBytes, filterBytes, instructionAt, instructionsAt, filterOf}
+use Rattle.definitions.specs.Kernel.{acceptsBytes}
+use Rattle.definitions.specs.Format.{Each}
 use Rattle.definitions.specs.Emitted.{emitted}
 use Rattle.theorems.specs.Statements.{Bytes, RightBytes, TakenBytes, OnceBytes}
 use Rattle.theorems.specs.Shape.{Fits, Shaped}

@@ -1,24 +1,23 @@
 -- COMPILED: whoever leaves the buffer where it refuses, and else writes good instructions at its start, keeps the promises of `Behaves`;
 -- of `Compiled`, if these are the emitted filter. And GROWS, of what two such compilations returned.
-use mathlib.Core.Path.{_≡_, refl, ap, sym, _∙_}
-use mathlib.Core.Bool.{Bool, true, false, cond}
-use mathlib.Core.List.{List, [], _∷_, _++_}
+use mathlib.Core.Path.{_≡_, ap, sym, _∙_}
+use mathlib.Core.Bool.{true}
+use mathlib.Core.List.{List, _++_}
 use mathlib.Core.Option.{some}
-use Prim.Native.Nat.{ℕ, _+_, _*_, _/_, _≤_, _<_}
+use Prim.Native.Nat.{ℕ, _+_, _*_, _/_}
 use native.Mathlib.Omega.{arith}
-use lib.Dec.{eqb}
-use lib.ListN.{length, take, drop}
+use lib.ListN.{length, drop}
 use lib.Seq.{take-at, drop-at}
 use borrow.Author.Tests.{eq-eqb, ne-eqb}
 use Rattle.definitions.specs.declared.Instruction.{Instruction}
 use Rattle.definitions.specs.declared.Answer.{Answer}
 use Rattle.definitions.specs.Word.{AreBytes}
-use Rattle.definitions.specs.Machine.{filterBytes, filterOf, Call, Result, returns, start, runs, visits, steps, Climbs}
+use Rattle.definitions.specs.Machine.{filterBytes, filterOf, Call, returns, runs}
 use Rattle.definitions.specs.Kernel.{acceptsBytes}
 use Rattle.definitions.specs.RuleSet.{RuleSet, meaning}
 use Rattle.definitions.specs.Emitted.{emitted}
 use Rattle.definitions.specs.Format.{read, InRange}
-use Rattle.definitions.specs.Answer.{indicesTaken, tooMany, noFault, answer, emittedSize, answerOf}
+use Rattle.definitions.specs.Answer.{indicesTaken, noFault, answer, emittedSize, answerOf}
 use Rattle.definitions.specs.Compiled.{FormOf, written, filterIn, Behaves, Compiled}
 use Rattle.theorems.specs.Statements.{GrowsBytes}
 use Rattle.theorems.proofs.Tests.{some-same}

@@ -6,7 +6,7 @@ use Prim.Native.Nat.{ℕ}
 use lib.Dec.{eqb}
 use borrow.Author.Tests.{eqb-true}
 use Rattle.definitions.specs.Machine.{Call}
-use Rattle.definitions.specs.RuleSet.{Rule, Entry, RuleSet, architectureWord, allHold, anyHolds, matches, listed, meaning, isListed, MoreEntries, listing, adding, Grown, killProcess, hasSecondTable, inSecondTable, guarded}
+use Rattle.definitions.specs.RuleSet.{Rule, Entry, architectureWord, allHold, anyHolds, matches, listed, meaning, isListed, MoreEntries, listing, adding, killProcess, inSecondTable, guarded}
 use Rattle.theorems.specs.Statements.{Grows}
 
 -- ---- a rule more

@@ -1,7 +1,7 @@
 -- LENGTH: the emitted filter has as many instructions as the sum over entries, rules and conditions says.
-use mathlib.Core.Path.{_≡_, refl, ap, sym, _∙_}
+use mathlib.Core.Path.{_≡_, refl}
 use mathlib.Core.Bool.{Bool, true, false, cond}
-use mathlib.Core.List.{List, [], _∷_, _++_}
+use mathlib.Core.List.{List, [], _∷_}
 use Prim.Native.Nat.{ℕ, _+_}
 use native.Mathlib.Omega.{arith}
 use lib.Dec.{ltb}
@@ -11,10 +11,10 @@ use Rattle.definitions.specs.declared.Operator.the-variants.{Eq, Ge, Gt, Le, Lt
 use Rattle.definitions.specs.declared.Width.{Width}
 use Rattle.definitions.specs.declared.Width.the-variants.{Dword, Qword}
 use Rattle.definitions.specs.declared.Condition.{Condition}
-use Rattle.definitions.specs.RuleSet.{Rule, Entry, RuleSet, guarded}
+use Rattle.definitions.specs.RuleSet.{Rule, Entry, guarded}
 use Rattle.definitions.specs.Emitted.{jumpBy, reach, highTests, lowTests, highPart, lowPart, conditionCode, helpers, near, stepCode, stepDistance, conditionsCode, ruleCode, rulesCode, bodyCode, entryCode, entriesCode, numbersCode, emitted}
 use Rattle.theorems.specs.Statements.{Lengths}
-use Rattle.theorems.specs.Length.{conditionLength, conditionsLength, sum, ruleLength, bodyLength, entryLength, headLength, filterLength}
+use Rattle.theorems.specs.Length.{conditionLength, conditionsLength, sum, ruleLength, bodyLength, entryLength, filterLength}
 use Rattle.theorems.proofs.Conditions.{compared}
 use Rattle.theorems.proofs.Heads.{length-head}
 

@@ -1,14 +1,13 @@
 -- RIGHT: the emitted filter returns, for every call, the action that its rule set means.
 use mathlib.Core.Path.{_≡_, refl, _∙_}
-use mathlib.Core.Bool.{Bool, true, false, cond}
+use mathlib.Core.Bool.{Bool, true, cond}
 use mathlib.Core.List.{List, [], _∷_, _++_, append-assoc}
-use Prim.Native.Nat.{ℕ, _≤_}
+use Prim.Native.Nat.{ℕ}
 use native.Mathlib.Omega.{arith}
-use lib.Dec.{eqb, leb}
+use lib.Dec.{eqb}
 use lib.ListN.{length}
 use borrow.Author.Tests.{leb-true}
 use Rattle.definitions.specs.declared.Instruction.{Instruction}
-use Rattle.definitions.specs.declared.Condition.{Condition}
 use Rattle.definitions.specs.Machine.{Call, State, Result, returns, run, start, setA}
 use Rattle.definitions.specs.RuleSet.{Rule, Entry, RuleSet, allHold, anyHolds, matches, listed}
 use Rattle.definitions.specs.Format.{Each}

@@ -15,10 +15,10 @@ use Rattle.definitions.specs.declared.Operator.{Operator}
 use Rattle.definitions.specs.declared.Width.{Width}
 use Rattle.definitions.specs.declared.Condition.{Condition}
 use Rattle.definitions.specs.Word.{bytesOf, numberAt, AreBytes}
-use Rattle.definitions.specs.RuleSet.{Architecture, Rule, Entry, RuleSet, isAction}
+use Rattle.definitions.specs.RuleSet.{Architecture, Rule, Entry, RuleSet}
 use Rattle.definitions.specs.Format.{headNumber, widthNumber, operatorNumber, joined, encodeCondition, encodeRule, encodeEntry, encode}
 use Rattle.definitions.specs.Format.{Each, ConditionInRange, EntryInRange, InRange}
-use Rattle.definitions.specs.Format.{architectureOf, widthOf, operatorOf, maskTaken, Read, then, times, conditionAt, ruleAt, entryAt, read}
+use Rattle.definitions.specs.Format.{widthOf, operatorOf, maskTaken, Read, times, conditionAt, ruleAt, entryAt, read}
 use Rattle.theorems.specs.Statements.{RoundTrip, OneForm}
 use Rattle.theorems.proofs.Tests.{both-true, each-both, then-some, check-some, some-same}
 use Rattle.theorems.proofs.Reading.{seen}

@@ -1,16 +1,16 @@
 -- One instruction at a time: what `run` does at each instruction that is emitted. Everything about meaning rests on these equations.
-use mathlib.Core.Path.{_≡_, refl, ap}
+use mathlib.Core.Path.{_≡_, refl}
 use mathlib.Core.Bool.{Bool, true, false, cond, not}
-use mathlib.Core.List.{List, [], _∷_}
-use mathlib.Core.Option.{Option, none, some}
-use Prim.Native.Nat.{ℕ, zero, suc, _+_, _<_, _≤_}
+use mathlib.Core.List.{List, _∷_}
+use mathlib.Core.Option.{some}
+use Prim.Native.Nat.{ℕ, zero, suc, _+_, _≤_}
 use native.Mathlib.Omega.{arith}
 use native.Mathlib.Numerals.{add-one, add-two, add-three}
 use lib.Dec.{eqb, leb, ltb}
 use lib.Bits.{bitAnd}
 use Rattle.definitions.specs.declared.Instruction.{Instruction}
 use Rattle.definitions.specs.Word.{low, high}
-use Rattle.definitions.specs.Machine.{Call, State, Result, returns, setA, words, fetch, codes, kindIn, kindOf, intoA, compute, testHolds, stepAs, step, run}
+use Rattle.definitions.specs.Machine.{Call, State, returns, setA, words, fetch, codes, kindIn, kindOf, intoA, compute, testHolds, stepAs, step, run}
 use Rattle.definitions.specs.RuleSet.{argument}
 use Rattle.definitions.specs.Emitted.{load, maskBy, jumpBy, ifEqual, ifGreater, ifAtLeast, ifAnyBit, return, lowAt, highAt}
 

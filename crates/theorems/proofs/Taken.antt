@@ -1,13 +1,13 @@
 -- TAKEN: the kernel's checks pass on every emitted filter of at most 4,096 instructions.
-use mathlib.Core.Path.{_≡_, refl, ap, _∙_, sym}
-use mathlib.Core.Bool.{Bool, true, false, cond, _&&_}
+use mathlib.Core.Path.{_≡_, refl}
+use mathlib.Core.Bool.{Bool, true, false, cond}
 use mathlib.Core.List.{List, [], _∷_, _++_, append-assoc}
-use Prim.Native.Nat.{ℕ, zero, suc, _+_, _≤_, _<_, _^_, _%_, _/_}
+use Prim.Native.Nat.{ℕ, zero, suc, _+_, _≤_, _<_, _^_, _/_}
 use native.Mathlib.Omega.{arith}
-use lib.Dec.{eqb, leb, ltb}
+use lib.Dec.{ltb}
 use lib.ListN.{length, length-append}
 use lib.Bits.{bitAnd, and-lt}
-use borrow.Author.Tests.{ltb-true, ltb-false, eq-eqb, lt-ltb, le-leb}
+use borrow.Author.Tests.{ltb-false, eq-eqb, lt-ltb, le-leb}
 use Rattle.definitions.specs.declared.Instruction.{Instruction}
 use Rattle.definitions.specs.declared.Operator.{Operator}
 use Rattle.definitions.specs.declared.Operator.the-variants.{Eq, Ge, Gt, Le, Lt, MaskedEq, Ne}
@@ -21,7 +21,7 @@ use Rattle.definitions.specs.Format.{Each, MaskInRange, ConditionInRange, Entry
 use Rattle.definitions.specs.Answer.{indicesTaken}
 use Rattle.definitions.specs.Emitted.{jumpBy, ifEqual, load, return, reach, highTests, lowTests, highPart, lowPart, conditionCode, helpers, near, stepCode, stepDistance, conditionsCode, distance, ruleCode, rulesCode, bodyCode, entryCode, entriesCode, numbersCode, guard, numberCode, headCode, headed, emitted}
 use Rattle.theorems.specs.Statements.{Taken}
-use Rattle.theorems.specs.Shape.{LandsAs, Fits, Shaped}
+use Rattle.theorems.specs.Shape.{LandsAs, Shaped}
 use Rattle.theorems.proofs.Tests.{true-both, either-true, one-below, each-both}
 use Rattle.theorems.proofs.Conditions.{compared}
 use Rattle.theorems.proofs.Rules.{IndexTaken}

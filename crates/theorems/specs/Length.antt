@@ -9,7 +9,6 @@ use Rattle.definitions.specs.declared.Operator.{Operator}
 use Rattle.definitions.specs.declared.Operator.the-variants.{Eq, Ge, Gt, Le, Lt, MaskedEq, Ne}
 use Rattle.definitions.specs.declared.Width.{Width}
 use Rattle.definitions.specs.declared.Width.the-variants.{Dword, Qword}
-use Rattle.definitions.specs.declared.Condition.{Condition}
 use Rattle.definitions.specs.RuleSet.{Rule, Entry, RuleSet, guarded}
 use Rattle.definitions.specs.Emitted.{reach, near}
 

@@ -1,7 +1,6 @@
 -- `callfilter_compile` meets its contract: a refusal writes nothing, and else the emitted filter is written.
 use native.Mathlib.Omega.{arith}
 use mathlib.Core.Path.{refl}
-use denote.Ref.{now}
 use Rattle.callfilter.proofs.Laws.{refused-compiled, writable, done-compiled}
 use borrow.Author.Needs.{needs}
 use Rattle.callfilter.proofs.callfilter_compile.Statement.{statement}

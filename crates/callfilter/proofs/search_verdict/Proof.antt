@@ -4,7 +4,7 @@ use Prim.Native.Nat.{_≤_}
 use native.Mathlib.Omega.{arith}
 use borrow.Author.Needs.{needs}
 use denote.Ref.{now}
-use Rattle.definitions.specs.Answer.{answer, countWith}
+use Rattle.definitions.specs.Answer.{answer}
 use Rattle.callfilter.proofs.Laws.{search-answer, search-none}
 use Rattle.callfilter.proofs.search_verdict.Statement.{statement}
 use Rattle.callfilter.proofs.search_verdict.Tie as tie

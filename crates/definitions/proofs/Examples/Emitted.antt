@@ -13,7 +13,7 @@ use Rattle.definitions.specs.declared.Width.{Width}
 use Rattle.definitions.specs.declared.Width.the-variants.{Dword, Qword}
 use Rattle.definitions.specs.declared.Condition.{Condition}
 use Rattle.definitions.specs.Machine.{Call, Result, returns, stuck, words, fetch, codes, kindIn, kindOf, intoA, compute, testHolds, stepAs, step, run, visits, runs, steps}
-use Rattle.definitions.specs.RuleSet.{Architecture, x86-64, aarch64, riscv64, architectureWord, Rule, Entry, RuleSet, test, holds, allHold, anyHolds, matches, listed, meaning, guarded, hasSecondTable, inSecondTable}
+use Rattle.definitions.specs.RuleSet.{Architecture, x86-64, aarch64, riscv64, architectureWord, Entry, RuleSet, test, holds, allHold, anyHolds, matches, listed, meaning, guarded, hasSecondTable, inSecondTable}
 use Rattle.definitions.specs.Answer.{all}
 use Rattle.definitions.specs.Emitted.{load, maskBy, jumpBy, ifEqual, ifGreater, ifAtLeast, ifAnyBit, return, highTests, lowTests, highPart, lowPart, conditionCode, helpers, near, stepCode, stepDistance, conditionsCode, distance, ruleCode, rulesCode, bodyCode, entryCode, entriesCode, numbersCode, emitted, headCode, numberCode}
 use Rattle.definitions.specs.Compiled.{guardSteps}

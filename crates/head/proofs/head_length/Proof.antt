@@ -1,10 +1,7 @@
 -- `head_length` meets its contract: one case after the other. Assumes nothing.
-use mathlib.Core.Path.{_≡_, ap, sym, _∙_}
-use mathlib.Core.List.{List}
+use mathlib.Core.Path.{sym, _∙_}
 use native.Mathlib.Omega.{arith}
 use borrow.Author.Needs.{needs}
-use lib.ListN.{length}
-use Rattle.definitions.specs.declared.Instruction.{Instruction}
 use Rattle.head.specs.Named.{namedArchitecture, guardsBy}
 use Rattle.head.proofs.Laws.{head-guarded, head-none, head-some}
 use Rattle.head.proofs.head_length.Statement.{statement}
