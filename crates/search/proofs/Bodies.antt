@@ -79,7 +79,7 @@ module _ (c : Call) (m : ℕ) where
       (record { here = λ t. run-return rest t c m; fail = λ t. skip1 rest t c (return m) ∙ h t }) in
       rw append-assoc (rw and-true at (x .here s))
 
-  rules-right : (n : Result) (rs : List Rule) (rest : List Instruction) → Each (Each IndexTaken) rs → Goes 0 rest c n
+  pub rules-right : (n : Result) (rs : List Rule) (rest : List Instruction) → Each (Each IndexTaken) rs → Goes 0 rest c n
       → Goes 0 (ruleBodies m rs ++ rest) c (cond (anyHolds c rs) (returns m) n)
   unfolding ruleBodies anyHolds
   rules-right n [] rest g h s = h s
@@ -105,7 +105,7 @@ conditions-open (q ∷ qs) d p o =
     (conditions-open qs (stepDistance q d) (stepCode q d ++ p)
     (opens-append (stepCode q d) p (opens-append (conditionCode q (near d)) (helpers d) (onto-load (q .width) (highPart q (near d)) (lowPart q (near d)) (loads _ _) (loads _ _)))))
 
-rules-open : (m : ℕ) (r : Rule) (rs : List Rule) (p : List Instruction) → Opens (ruleBodies m (r ∷ rs) ++ p)
+pub rules-open : (m : ℕ) (r : Rule) (rs : List Rule) (p : List Instruction) → Opens (ruleBodies m (r ∷ rs) ++ p)
 unfolding ruleBodies ruleBody
 rules-open m r rs p = opens-append (ruleBody m r ++ ruleBodies m rs) p (opens-append (ruleBody m r) (ruleBodies m rs) (conditions-open r 1 (return m ∷ []) (returning m [])))
 
@@ -117,7 +117,7 @@ module _ (c : Call) (m d : ℕ) where
   loaded = setA (c .number) start
 
   entry-ends : (r : Rule) (rs : List Rule) (rest : List Instruction) → Each (Each IndexTaken) (r ∷ rs)
-      → Ends c loaded refl (length (entryBody m d (r ∷ rs) ++ rest)) (entryBody m d (r ∷ rs) ++ rest)
+      → Ends c loaded (c .number) refl (length (entryBody m d (r ∷ rs) ++ rest)) (entryBody m d (r ∷ rs) ++ rest)
       (returns (cond (anyHolds c (r ∷ rs)) m d)) (rulesSteps m d (r ∷ rs) c)
   unfolding entryBody rulesSteps
   entry-ends r rs rest g =
@@ -136,31 +136,31 @@ module _ (c : Call) (m d : ℕ) where
       }
 
   entry-leads : (n : ℕ) (rs : List Rule) (ss : List Span) (p : List Instruction) (v : ℕ) (others : List Rule) → Each (Each IndexTaken) rs → Sorted (n + 1) ss
-      → Leads c loaded refl m d p (seek ss (c .number)) (returns v) (rulesSteps m d others c)
-      → Leads c loaded refl m d (entryBody m d rs ++ p) (seek (entrySpans n rs (length (entryBody m d rs ++ p)) ss) (c .number))
+      → Leads c loaded (c .number) refl m d p (seek ss (c .number)) (returns v) (rulesSteps m d others c)
+      → Leads c loaded (c .number) refl m d (entryBody m d rs ++ p) (seek (entrySpans n rs (length (entryBody m d rs ++ p)) ss) (c .number))
       (returns (cond (eqb (c .number) n) (cond (matches c rs) m d) v)) (rulesSteps m d (cond (eqb (c .number) n) rs others) c)
   unfolding entryBody entrySpans matches Leads rulesSteps
   entry-leads n [] ss p v others g o h = rw (seek-plain (c .number) n ss o) (go (eqb (c .number) n))
     where
-      go : (t : Bool) → Leads c loaded refl m d p (cond t toMatch (seek ss (c .number))) (returns (cond t m v)) (rulesSteps m d (cond t [] others) c)
+      go : (t : Bool) → Leads c loaded (c .number) refl m d p (cond t toMatch (seek ss (c .number))) (returns (cond t m v)) (rulesSteps m d (cond t [] others) c)
       go true = (refl, omega arith)
       go false = h
   entry-leads n (r ∷ rs) ss p v others g o h = rw (seek-alone (c .number) n (toRules (length (entryBody m d (r ∷ rs) ++ p))) ss) (go (eqb (c .number) n))
     where
-      go : (t : Bool) → Leads c loaded refl m d (entryBody m d (r ∷ rs) ++ p) (cond t (toRules (length (entryBody m d (r ∷ rs) ++ p))) (seek ss (c .number)))
+      go : (t : Bool) → Leads c loaded (c .number) refl m d (entryBody m d (r ∷ rs) ++ p) (cond t (toRules (length (entryBody m d (r ∷ rs) ++ p))) (seek ss (c .number)))
           (returns (cond t (cond (anyHolds c (r ∷ rs)) m d) v)) (rulesSteps m d (cond t (r ∷ rs) others) c)
       go true = entry-ends r rs p g
-      go false = leads-over c loaded refl m d p (entryBody m d (r ∷ rs) ++ p) (seek ss (c .number)) (returns v) (rulesSteps m d others c) (over-append (entryBody m d (r ∷ rs)) p) h
+      go false = leads-over c loaded (c .number) refl m d p (entryBody m d (r ∷ rs) ++ p) (seek ss (c .number)) (returns v) (rulesSteps m d others c) (over-append (entryBody m d (r ∷ rs)) p) h
 
   pub bodies-lead : (b : ℕ) (es : List Entry) → Each EntryTaken es → Rising b es
-      → Leads c loaded refl m d (bodies m d es) (seek (spans m d es) (c .number)) (returns (listed c m d es)) (rulesSteps m d (rulesOf (c .number) es) c)
+      → Leads c loaded (c .number) refl m d (bodies m d es) (seek (spans m d es) (c .number)) (returns (listed c m d es)) (rulesSteps m d (rulesOf (c .number) es) c)
   unfolding bodies spans listed rulesOf Rising
   bodies-lead b [] g a = unfold seek Leads rulesSteps in (refl, omega arith)
   bodies-lead b (e ∷ es) g a =
       entry-leads (e .number) (e .rules) (spans m d es) (bodies m d es) (listed c m d es) (rulesOf (c .number) es) (g .0)
       (spans-sorted m d (e .number + 1) es (a .1)) (bodies-lead (e .number + 1) es (g .1) (a .1))
 
-  last-ends : (es : List Entry) → Ends c loaded refl 1 (bodies m d es) (returns d) 1
+  last-ends : (es : List Entry) → Ends c loaded (c .number) refl 1 (bodies m d es) (returns d) 1
   unfolding bodies
   last-ends [] = record {
     pos = omega arith;
@@ -169,8 +169,8 @@ module _ (c : Call) (m d : ℕ) where
     upto = rw count-return (omega arith);
   }
   last-ends (e ∷ es) =
-      ends-over c loaded refl 1 (bodies m d es) (entryBody m d (e .rules) ++ bodies m d es) (returns d) 1 (over-append (entryBody m d (e .rules)) (bodies m d es)) (last-ends es)
+      ends-over c loaded (c .number) refl 1 (bodies m d es) (entryBody m d (e .rules) ++ bodies m d es) (returns d) 1 (over-append (entryBody m d (e .rules)) (bodies m d es)) (last-ends es)
 
-  pub ground-ready : (es : List Entry) → Ready c loaded refl m d (ground m d es)
+  pub ground-ready : (es : List Entry) → Ready c loaded (c .number) refl m d (ground m d es)
   unfolding ground
   ground-ready es = record { onMatch = λ q. absurd (omega arith); onMismatch = λ q. last-ends es }

@@ -76,8 +76,8 @@ few-depth k from end ss q h = go (leb (length ss) 1) refl k h
 unfoldable pub treeMost : ℕ → ℕ
 treeMost k = k + 3 + (k - 6)
 
--- one call, whose number was loaded
-module _ (c : Call) (s : State) (known : s .A ≡ c .number) where
+-- one call, of which a word was loaded
+module _ (c : Call) (s : State) (word : ℕ) (known : s .A ≡ word) where
   -- from place e of p on, the call gets r, after n instructions at most
   pub record Ends (e : ℕ) (p : List Instruction) (r : Result) (n : ℕ) : Type 0 where
     pub pos : 1 ≤ e
@@ -93,10 +93,10 @@ module _ (c : Call) (s : State) (known : s .A ≡ c .number) where
       let z : suc (length q′) - e ≡ suc (length q′ - e) = omega arith in
       record { pos = x .pos; inside = omega arith; goes = rw (z, run-suc) (x .goes); upto = rw (z, count-suc) (x .upto) }
 
-  ends-more : (e : ℕ) (p : List Instruction) (r : Result) (n k : ℕ) → n ≤ k → Ends e p r n → Ends e p r k
+  pub ends-more : (e : ℕ) (p : List Instruction) (r : Result) (n k : ℕ) → n ≤ k → Ends e p r n → Ends e p r k
   ends-more e p r n k h x = record { pos = x .pos; inside = x .inside; goes = x .goes; upto = omega (arith, x .upto) }
 
-  ends-first : (i : Instruction) (p : List Instruction) (r : Result) (n : ℕ) → run 0 (i ∷ p) s c ≡ r → count 0 (i ∷ p) s c ≤ n
+  pub ends-first : (i : Instruction) (p : List Instruction) (r : Result) (n : ℕ) → run 0 (i ∷ p) s c ≡ r → count 0 (i ∷ p) s c ≤ n
       → Ends (suc (length p)) (i ∷ p) r n
   ends-first i p r n g u =
       let q : suc (length p) - suc (length p) ≡ 0 = omega arith in
@@ -155,7 +155,7 @@ module _ (c : Call) (s : State) (known : s .A ≡ c .number) where
       pub onMatch : Returns (f .matchReturn) (f .code) m
       pub onMismatch : Returns (f .mismatchReturn) (f .code) d
 
-    ready-over : (f : Form) (q : List Instruction) (at : ℕ) → Over (f .code) q → Ready f
+    pub ready-over : (f : Form) (q : List Instruction) (at : ℕ) → Over (f .code) q → Ready f
         → Ready (record { code = q; matchReturn = f .matchReturn; mismatchReturn = f .mismatchReturn; at = at })
     ready-over f q at o h = record {
       onMatch = λ x. ends-over (f .matchReturn) (f .code) q (returns m) 1 o (h .onMatch x);
@@ -214,7 +214,7 @@ module _ (c : Call) (s : State) (known : s .A ≡ c .number) where
       unfolding compareFirst
       compare-ready h = ready-over f _ _ (more _ (place-over at (f .code))) h
 
-      compare-hit : (r : Result) (n : ℕ) → passes t k (c .number) ≡ true → Ends (nearPlace at (f .code) .at) (nearPlace at (f .code) .code) r n
+      compare-hit : (r : Result) (n : ℕ) → passes t k word ≡ true → Ends (nearPlace at (f .code) .at) (nearPlace at (f .code) .code) r n
           → Ends (compareFirst t k at f .at) (compareFirst t k at f .code) r (n + 1)
       unfolding compareFirst
       compare-hit r n y h =
@@ -222,7 +222,7 @@ module _ (c : Call) (s : State) (known : s .A ≡ c .number) where
           ends-first _ (nearPlace at (f .code) .code) r (n + 1) (run-compare (nearPlace at (f .code) .code) s c t k _ _ ∙ rw z (h .goes))
           (rw (count-compare, z) (omega (arith, h .upto)))
 
-      compare-miss : (r : Result) (n : ℕ) → passes t k (c .number) ≡ false → Ends (f .at) (f .code) r n
+      compare-miss : (r : Result) (n : ℕ) → passes t k word ≡ false → Ends (f .at) (f .code) r n
           → Ends (compareFirst t k at f .at) (compareFirst t k at f .code) r (n + 1)
       unfolding compareFirst
       compare-miss r n y e =
@@ -232,11 +232,11 @@ module _ (c : Call) (s : State) (known : s .A ≡ c .number) where
           (rw (count-compare, z) (omega (arith, h .upto)))
 
     join-followed : (top : ℕ) (t : Comparison) (k : ℕ) (f g h : Form) (a b : Destination) (na nb : ℕ) → length (h .code) ≤ top → top ≤ length (h .code) + jumpReach
-        → Followed top f g a na → Followed top g h b nb → Followed top f (compareFirst t k (g .at) h) (cond (passes t k (c .number)) a b) (suc (max na nb))
+        → Followed top f g a na → Followed top g h b nb → Followed top f (compareFirst t k (g .at) h) (cond (passes t k word) a b) (suc (max na nb))
     join-followed top t k f g h a b na nb l l₂ p q = record {
       ready = compare-ready t k (g .at) h (q .ready);
       over = over-over (p .over) (over-over (q .over) (compare-over t k (g .at) h));
-      upto = λ r x. pick r x (passes t k (c .number)) refl;
+      upto = λ r x. pick r x (passes t k word) refl;
       tight = λ r x u y. absurd (omega (arith, compare-size t k (g .at) h .1, over-length (compare-over t k (g .at) h)));
     }
       where
@@ -248,7 +248,7 @@ module _ (c : Call) (s : State) (known : s .A ≡ c .number) where
             ends-more _ _ r (x + na + 1) (x + suc na) (omega arith)
             (place-ends (g .at) (h .code) r (x + na) (ends-over (g .at) (g .code) (h .code) r (x + na) (q .over) (p .tight r x (omega arith) y)))
 
-        pick : (r : Result) (x : ℕ) (u : Bool) → passes t k (c .number) ≡ u → Leads (f .code) (cond u a b) r x
+        pick : (r : Result) (x : ℕ) (u : Bool) → passes t k word ≡ u → Leads (f .code) (cond u a b) r x
             → Ends (compareFirst t k (g .at) h .at) (compareFirst t k (g .at) h .code) r (x + suc (suc (max na nb)))
         pick r x true e y =
             ends-more _ _ r (x + suc na + 1) (x + suc (suc (max na nb))) (omega arith)
@@ -258,7 +258,7 @@ module _ (c : Call) (s : State) (known : s .A ≡ c .number) where
             (compare-miss t k (g .at) h r (x + suc nb) e (q .upto r x (leads-over (f .code) (g .code) b r x (p .over) y)))
 
     plant-followed : (top : ℕ) (t : Tree) (f : Form) → Flat t → Roomy top f (cost t) → Ready f
-        → Followed top f (plant m d t f) (find t (c .number)) (depth t)
+        → Followed top f (plant m d t f) (find t word) (depth t)
     unfolding plant cost Flat find depth
     plant-followed top (leaf to) f b i r = leaf-followed top to f (i .small) r
     plant-followed top (block t) f b i r = absurd b
@@ -271,7 +271,7 @@ module _ (c : Call) (s : State) (known : s .A ≡ c .number) where
         let sm = plant-snug m d top miss g (b .1) im in
         let p = plant-followed top hit f (b .0) ih r in
         let q = plant-followed top miss g (b .1) im (p .ready) in
-        join-followed top t k f g h (find hit (c .number)) (find miss (c .number)) (depth hit) (depth miss)
+        join-followed top t k f g h (find hit word) (find miss word) (depth hit) (depth miss)
         (omega (arith, im .fits, sm .most)) (omega (arith, im .small, sm .grew)) p q
 
     -- ---- the tree of any number of spans
@@ -282,7 +282,7 @@ module _ (c : Call) (s : State) (known : s .A ≡ c .number) where
       pub upto : (r : Result) (b : ℕ) → Leads (f .code) to r b → Ends (g .at) (g .code) r (b + n)
 
     block-found : (ss : List Span) (t : Tree) (f : Form) (n : ℕ) → length ss ≤ blockSpans → Lean ss t → depth t < n → Rooted f → Ready f
-        → Found f (plant m d (block t) f) (find (block t) (c .number)) n
+        → Found f (plant m d (block t) f) (find (block t) word) n
     unfolding plant find
     block-found ss t f n l h i r w =
         let x = plant-followed (length (openBlock d f .code) + cost t) t (openBlock d f) (h .flat) (block-roomy m d ss t f l h r) (block-ready f w) in
@@ -290,7 +290,7 @@ module _ (c : Call) (s : State) (known : s .A ≡ c .number) where
           ready = x .ready;
           over = over-over (block-over f) (x .over);
           upto = λ y b e. ends-more _ _ y (b + suc (depth t)) (b + n) (omega arith)
-              (x .upto y b (leads-over (f .code) (openBlock d f .code) (find t (c .number)) y b (block-over f) e));
+              (x .upto y b (leads-over (f .code) (openBlock d f .code) (find t word) y b (block-over f) e));
         }
 
     -- a half is far only where it has many spans
@@ -305,14 +305,14 @@ module _ (c : Call) (s : State) (known : s .A ≡ c .number) where
 
     join-found : (ss : List Span) (k n : ℕ) (hit miss : Tree) (f : Form) → blockSpans < length ss → length ss ≤ 2 ^ suc k → Compares hit
         → Sized (lower ss) (plant m d hit f) (plant m d miss (plant m d hit f))
-        → Found f (plant m d hit f) (find hit (c .number)) (treeMost k)
-        → Found (plant m d hit f) (plant m d miss (plant m d hit f)) (find miss (c .number)) (treeMost k)
-        → Found f (plant m d (node atLeast n hit miss) f) (find (node atLeast n hit miss) (c .number)) (treeMost (suc k))
+        → Found f (plant m d hit f) (find hit word) (treeMost k)
+        → Found (plant m d hit f) (plant m d miss (plant m d hit f)) (find miss word) (treeMost k)
+        → Found f (plant m d (node atLeast n hit miss) f) (find (node atLeast n hit miss) word) (treeMost (suc k))
     unfolding plant find treeMost
     join-found ss k n hit miss f l e by z p q = record {
       ready = compare-ready atLeast n (g .at) h (q .ready);
       over = over-over (p .over) (over-over (q .over) (compare-over atLeast n (g .at) h));
-      upto = λ r b. pick r b (passes atLeast n (c .number)) refl;
+      upto = λ r b. pick r b (passes atLeast n word) refl;
     }
       where
         g : Form
@@ -321,7 +321,7 @@ module _ (c : Call) (s : State) (known : s .A ≡ c .number) where
         h : Form
         h = plant m d miss (plant m d hit f)
 
-        near : (r : Result) (b : ℕ) → Leads (f .code) (find hit (c .number)) r b → (u : Bool) → leb (length (lower ss)) 41 ≡ u
+        near : (r : Result) (b : ℕ) → Leads (f .code) (find hit word) r b → (u : Bool) → leb (length (lower ss)) 41 ≡ u
             → Ends (nearPlace (g .at) (h .code) .at) (nearPlace (g .at) (h .code) .code) r (b + (suc k + 3 + (suc k - 6)) - 1)
         near r b x true w =
             let i = z .most in
@@ -340,20 +340,20 @@ module _ (c : Call) (s : State) (known : s .A ≡ c .number) where
             (place-ends (g .at) (h .code) r (b + (k + 3 + (k - 6)))
             (ends-over (g .at) (g .code) (h .code) r (b + (k + 3 + (k - 6))) (q .over) (p .upto r b x)))
 
-        pick : (r : Result) (b : ℕ) (u : Bool) → passes atLeast n (c .number) ≡ u → Leads (f .code) (cond u (find hit (c .number)) (find miss (c .number))) r b
+        pick : (r : Result) (b : ℕ) (u : Bool) → passes atLeast n word ≡ u → Leads (f .code) (cond u (find hit word) (find miss word)) r b
             → Ends (compareFirst atLeast n (g .at) h .at) (compareFirst atLeast n (g .at) h .code) r (b + (suc k + 3 + (suc k - 6)))
         pick r b true w x =
             ends-more _ _ r (b + (suc k + 3 + (suc k - 6)) - 1 + 1) _ (omega arith)
             (compare-hit atLeast n (g .at) h r _ w (near r b x (leb (length (lower ss)) 41) refl))
         pick r b false w x =
             ends-more _ _ r (b + (k + 3 + (k - 6)) + 1) _ (omega arith)
-            (compare-miss atLeast n (g .at) h r (b + (k + 3 + (k - 6))) w (q .upto r b (leads-over (f .code) (g .code) (find miss (c .number)) r b (p .over) x)))
+            (compare-miss atLeast n (g .at) h r (b + (k + 3 + (k - 6))) w (q .upto r b (leads-over (f .code) (g .code) (find miss word) r b (p .over) x)))
 
     -- inside a block, and not
     unfoldable Tracking : Bool → List Span → Tree → Type 0
     Tracking true ss t = (k : ℕ) → length ss ≤ 2 ^ k → depth t ≤ k + 2
     Tracking false ss t =
-        (k : ℕ) → length ss ≤ 2 ^ k → 1 ≤ length ss → (f : Form) → Rooted f → Ready f → Found f (plant m d t f) (find t (c .number)) (treeMost k)
+        (k : ℕ) → length ss ≤ 2 ^ k → 1 ≤ length ss → (f : Form) → Rooted f → Ready f → Found f (plant m d t f) (find t word) (treeMost k)
 
     chain-tracking : (inside : Bool) (from end : ℕ) (ss : List Span) → few ss ≡ true → Fitting m d true ss (chain from end ss)
         → Tracking inside ss (blockIf (not inside) (chain from end ss))
@@ -401,7 +401,7 @@ module _ (c : Call) (s : State) (known : s .A ≡ c .number) where
         go false false e x y = λ k l o f r w. many k l f r w
           where
             many : (k : ℕ) → length ss ≤ 2 ^ k → (f : Form) → Rooted f → Ready f
-                → Found f (plant m d (node atLeast (middle ss) hit miss) f) (find (node atLeast (middle ss) hit miss) (c .number)) (treeMost k)
+                → Found f (plant m d (node atLeast (middle ss) hit miss) f) (find (node atLeast (middle ss) hit miss) word) (treeMost k)
             many zero l f r w = absurd (omega (arith, few-not ss q))
             many (suc k) l f r w =
                 let n : blockSpans < length ss = leb-false (length ss) blockSpans e in
@@ -419,7 +419,7 @@ module _ (c : Call) (s : State) (known : s .A ≡ c .number) where
       pub found : Found f g to n
 
     pub tree-found : (k : ℕ) (ss : List Span) (f : Form) → length ss ≤ 2 ^ k → 1 ≤ length ss → Rooted f → Ready f
-        → Searched f (plant m d (grow (length ss) false 0 0 ss) f) (find (grow (length ss) false 0 0 ss) (c .number)) (treeMost k)
+        → Searched f (plant m d (grow (length ss) false 0 0 ss) f) (find (grow (length ss) false 0 0 ss) word) (treeMost k)
     unfolding Tracked Tracking
     tree-found k ss f l o r w =
         let x = grown Tracked chain-tracked halves-tracked (length ss) false 0 0 ss (omega arith) in

@@ -13,3 +13,12 @@ pub mod Taken
 pub mod Bytes
 pub mod Examples
 pub mod Searched
+pub mod RuleCases
+pub mod RuleSteps
+pub mod RulesRight
+pub mod RulesSizes
+pub mod RulesForm
+pub mod RulesTaken
+pub mod RulesQuick
+pub mod RulesExamples
+pub mod RulesBytes

@@ -30,7 +30,7 @@ pub record Answers (c : Call) (s : State) (p : List Instruction) (r : Result) (n
   pub upto : count 0 p s c ≤ n
 
 module _ (c : Call) (m d : ℕ) where
-  from-front : (g : Form) (r : Result) (n : ℕ) → g .at ≡ length (g .code) → Ends c (loaded c m d) refl (g .at) (g .code) r n
+  from-front : (g : Form) (r : Result) (n : ℕ) → g .at ≡ length (g .code) → Ends c (loaded c m d) (c .number) refl (g .at) (g .code) r n
       → Answers c (loaded c m d) (g .code) r n
   from-front g r n e h =
       let z : length (g .code) - g .at ≡ 0 = omega arith in
@@ -49,11 +49,11 @@ module _ (c : Call) (m d : ℕ) where
   planted-right k (e ∷ es) g a l =
       unfold planted tree in
       let ss : List Span = spans m d (e ∷ es) in
-      let x = tree-found c (loaded c m d) refl m d k ss (ground m d (e ∷ es)) l (spans-some m d e es) (ground-rooted m d (e ∷ es)) (ground-ready c m d (e ∷ es)) in
+      let x = tree-found c (loaded c m d) (c .number) refl m d k ss (ground m d (e ∷ es)) l (spans-some m d e es) (ground-rooted m d (e ∷ es)) (ground-ready c m d (e ∷ es)) in
       let q : find (grow (length ss) false 0 0 ss) (c .number) ≡ seek ss (c .number) = tree-right (c .number) 0 ss (spans-sorted m d 0 (e ∷ es) a) in
       from-front (plant m d (grow (length ss) false 0 0 ss) (ground m d (e ∷ es))) _ _ (x .front) (x .found .upto _ _ (rw q (unfold ground in bodies-lead c m d 0 (e ∷ es) g a)))
 
-below-power : (n : ℕ) → n ≤ 2 ^ n
+pub below-power : (n : ℕ) → n ≤ 2 ^ n
 below-power zero = omega arith
 below-power (suc n) = let x : n < suc n = omega arith in omega (arith, below-power n, pow-lt x)
 

@@ -23,11 +23,11 @@ rules-shorter m (r ∷ rs) = simp length-append (omega (arith, rules-shorter m r
 
 -- ---- what an entry's span may take beside its rules is what the emitted form takes
 
-alone-need : (n : ℕ) (to : Destination) → need (alone n to) ≡ 3
+pub alone-need : (n : ℕ) (to : Destination) → need (alone n to) ≡ 3
 unfolding need
 alone-need n to = ap (λ (b : Bool). cond b 3 6) (eq-eqb n n refl)
 
-plain-need : (n : ℕ) (ss : List Span) → needs (plainSpans n ss) ≤ 3 + needs ss
+pub plain-need : (n : ℕ) (ss : List Span) → needs (plainSpans n ss) ≤ 3 + needs ss
 unfolding needs
 plain-need n [] = unfold plainSpans in omega (arith, alone-need n toMatch)
 plain-need n (s ∷ ss) =
@@ -35,7 +35,7 @@ plain-need n (s ∷ ss) =
     (λ e p. omega (arith, need-least s, need-most (record { first = n; last = s .last; to = toMatch })))
     (omega (arith, alone-need n toMatch))
 
-entry-shorter : (m d at : ℕ) (e : Entry) (ss : List Span) → length (entryBody m d (e .rules)) + needs (entrySpans (e .number) (e .rules) at ss) ≤ length (entryCode m d e) + needs ss
+pub entry-shorter : (m d at : ℕ) (e : Entry) (ss : List Span) → length (entryBody m d (e .rules)) + needs (entrySpans (e .number) (e .rules) at ss) ≤ length (entryCode m d e) + needs ss
 unfolding entryCode
 entry-shorter m d at e ss = go (e .rules)
   where

@@ -93,7 +93,7 @@ pub rising : (es : List Entry) → ascending es ≡ true → Rising 0 es
 rising [] q = unfold Rising in tt
 rising (e ∷ es) q = rises 0 e es (omega arith) q
 
-plain-sorted : (b n : ℕ) (ss : List Span) → b ≤ n → Sorted (n + 1) ss → Sorted b (plainSpans n ss)
+pub plain-sorted : (b n : ℕ) (ss : List Span) → b ≤ n → Sorted (n + 1) ss → Sorted b (plainSpans n ss)
 unfolding Sorted
 plain-sorted b n [] h o = unfold plainSpans in (h, omega arith, tt)
 plain-sorted b n (s ∷ ss) h o = plain-case (Sorted b) n s ss (λ e p. (h, omega (arith, o .0, o .1), o .2)) (h, omega arith, o)
@@ -111,7 +111,7 @@ spans-sorted m d b (e ∷ es) a = entry-sorted b (e .number) _ (e .rules) (spans
 -- ---- how many there are
 
 -- the first span begins with the first number, and leads to a match where that has no rules
-record Begins (n : ℕ) (plain : Bool) (ss : List Span) : Type 0 where
+pub record Begins (n : ℕ) (plain : Bool) (ss : List Span) : Type 0 where
   span : Span
   others : List Span
   are : ss ≡ span ∷ others
@@ -125,13 +125,13 @@ plain-begins n (s ∷ ss) =
     (λ e p. record { span = record { first = n; last = s .last; to = toMatch }; others = ss; are = refl; first = refl; to = refl })
     (record { span = alone n toMatch; others = s ∷ ss; are = refl; first = refl; to = refl })
 
-entry-begins : (n at : ℕ) (rs : List Rule) (ss : List Span) → Begins n (noRules rs) (entrySpans n rs at ss)
+pub entry-begins : (n at : ℕ) (rs : List Rule) (ss : List Span) → Begins n (noRules rs) (entrySpans n rs at ss)
 unfolding entrySpans
 entry-begins n at [] ss = plain-begins n ss
 entry-begins n at (r ∷ rs) ss = record { span = alone n (toRules at); others = ss; are = refl; first = refl; to = refl }
 
 -- a number more in front
-entry-count : (n at : ℕ) (rs : List Rule) (k : ℕ) (plain : Bool) (ss : List Span) → Begins k plain ss
+pub entry-count : (n at : ℕ) (rs : List Rule) (k : ℕ) (plain : Bool) (ss : List Span) → Begins k plain ss
     → length (entrySpans n rs at ss) ≡ cond (eqb k (n + 1) && (noRules rs && plain)) 0 1 + length ss
 unfolding entrySpans plainSpans
 entry-count n at (r ∷ rs) k plain ss b = go (eqb k (n + 1))

@@ -22,7 +22,7 @@ use Rattle.search.proofs.Grow.{passes}
 abbrev pub count : ℕ → List Instruction → State → Call → ℕ
 count n p s c = length (visits 0 n p s c)
 
-shift : (a b n : ℕ) (p : List Instruction) (s : State) (c : Call) → length (visits a n p s c) ≡ length (visits b n p s c)
+pub shift : (a b n : ℕ) (p : List Instruction) (s : State) (c : Call) → length (visits a n p s c) ≡ length (visits b n p s c)
 unfolding visits
 shift a b n [] s c = refl
 shift a b zero (i ∷ p) s c = ap suc (go (step i s c) (λ n t. shift (a + 1) (b + 1) n p t c))
@@ -47,7 +47,7 @@ module _ (p : List Instruction) (s : State) (c : Call) where
   unfolding visits step stepAs kindOf kindIn codes
   count-return k = refl
 
-  count-load : (k : ℕ) {w : ℕ} → fetch c k ≡ some w → count 0 (load k ∷ p) s c ≡ suc (count 0 p (setA w s) c)
+  pub count-load : (k : ℕ) {w : ℕ} → fetch c k ≡ some w → count 0 (load k ∷ p) s c ≡ suc (count 0 p (setA w s) c)
   unfolding visits step stepAs kindOf kindIn codes intoA
   count-load k {w} e = rw (e, visits, intoA) (ap suc (shift 1 0 0 p (setA w s) c))
 

@@ -28,9 +28,9 @@ use Rattle.theorems.proofs.Taken.{ends-cons, ends-append}
 -- ---- one instruction in front
 
 -- code that may stand behind something, if the whole is not longer than a distance of four bytes can say
-record Firm (p : List Instruction) : Type 0 where
-  shaped : length p < 2 ^ 32 → Shaped p
-  ends : endsInReturn p ≡ true
+pub record Firm (p : List Instruction) : Type 0 where
+  pub shaped : length p < 2 ^ 32 → Shaped p
+  pub ends : endsInReturn p ≡ true
 
 jump-firm : (at : ℕ) (p : List Instruction) → 1 ≤ at → at ≤ length p → Firm p → Firm (jumpBy (length p - at) ∷ p)
 unfolding Shaped LandsAs kindOf kindIn codes
@@ -39,7 +39,7 @@ jump-firm at p h k f = record {
   ends = ends-cons (jumpBy (length p - at)) p (f .ends);
 }
 
-return-firm : (k : ℕ) (p : List Instruction) → k < 2 ^ 32 → Firm p → Firm (return k ∷ p)
+pub return-firm : (k : ℕ) (p : List Instruction) → k < 2 ^ 32 → Firm p → Firm (return k ∷ p)
 unfolding Shaped LandsAs kindOf kindIn codes
 return-firm k p h f = record {
   shaped = λ l. (tt, (omega arith, omega arith, omega arith, h), f .shaped (omega arith));
@@ -72,17 +72,17 @@ near-return-firm z k at p h f = cond-case (λ (s : Spot). Firm (s .code)) (ltb z
 
 -- ---- trees whose numbers have room, and whose rules stand in the last l instructions
 
-unfoldable FineTo : ℕ → Destination → Type 0
+unfoldable pub FineTo : ℕ → Destination → Type 0
 FineTo l toMismatch = Unit {0}
 FineTo l toMatch = Unit {0}
 FineTo l (toRules at) = (1 ≤ at) × (at ≤ l)
 
-unfoldable Fine : ℕ → Tree → Type 0
+unfoldable pub Fine : ℕ → Tree → Type 0
 Fine l (leaf to) = FineTo l to
 Fine l (node t k hit miss) = (k < 2 ^ 32) × Fine l hit × Fine l miss
 Fine l (block t) = Fine l t
 
-fine-to-more : (l n : ℕ) (to : Destination) → l ≤ n → FineTo l to → FineTo n to
+pub fine-to-more : (l n : ℕ) (to : Destination) → l ≤ n → FineTo l to → FineTo n to
 unfolding FineTo
 fine-to-more l n toMismatch h f = tt
 fine-to-more l n toMatch h f = tt
@@ -96,16 +96,16 @@ fine-more l n (block t) h f = fine-more l n t h f
 
 -- ---- planted
 
-record Stands (f : Form) : Type 0 where
-  firm : Firm (f .code)
-  matchReturn : f .matchReturn ≤ length (f .code)
-  mismatchReturn : f .mismatchReturn ≤ length (f .code)
+pub record Stands (f : Form) : Type 0 where
+  pub firm : Firm (f .code)
+  pub matchReturn : f .matchReturn ≤ length (f .code)
+  pub mismatchReturn : f .mismatchReturn ≤ length (f .code)
 
 -- and a comparison in front may go where it is entered
-record Laid (f g : Form) : Type 0 where
-  stands : Stands g
-  near : Near jumpReach (record { code = g .code; at = g .at })
-  grew : length (f .code) ≤ length (g .code)
+pub record Laid (f g : Form) : Type 0 where
+  pub stands : Stands g
+  pub near : Near jumpReach (record { code = g .code; at = g .at })
+  pub grew : length (f .code) ≤ length (g .code)
 
 module _ (m d : ℕ) (hm : m < 2 ^ 32) (hd : d < 2 ^ 32) where
   leaf-laid : (to : Destination) (f : Form) → FineTo (length (f .code)) to → Stands f → Laid f (plantLeaf m d to f)
@@ -187,7 +187,7 @@ module _ (m d : ℕ) (hm : m < 2 ^ 32) (hd : d < 2 ^ 32) where
         grew = omega arith;
       }
 
-  plant-laid : (t : Tree) (f : Form) → Fine (length (f .code)) t → Stands f → Laid f (plant m d t f)
+  pub plant-laid : (t : Tree) (f : Form) → Fine (length (f .code)) t → Stands f → Laid f (plant m d t f)
   unfolding plant Fine
   plant-laid (leaf to) f i h = leaf-laid to f i h
   plant-laid (node t k hit miss) f i h =
@@ -202,10 +202,10 @@ module _ (m d : ℕ) (hm : m < 2 ^ 32) (hd : d < 2 ^ 32) where
 
 -- ---- the trees of spans
 
-record FineSpan (l : ℕ) (s : Span) : Type 0 where
-  first : s .first < 2 ^ 32
-  last : s .last < 2 ^ 32
-  to : FineTo l (s .to)
+pub record FineSpan (l : ℕ) (s : Span) : Type 0 where
+  pub first : s .first < 2 ^ 32
+  pub last : s .last < 2 ^ 32
+  pub to : FineTo l (s .to)
 
 module _ (l : ℕ) where
   up-fine : (end : ℕ) (s : Span) (t : Tree) → FineSpan l s → Fine l t → Fine l (upTo end s t)
@@ -240,7 +240,7 @@ module _ (l : ℕ) where
   drop-fine (suc h) [] f = (tt, omega arith)
   drop-fine (suc h) (s ∷ ss) f = drop-fine h ss (f .1)
 
-  tree-fine : (ss : List Span) → Each (FineSpan l) ss → Fine l (grow (length ss) false 0 0 ss)
+  pub tree-fine : (ss : List Span) → Each (FineSpan l) ss → Fine l (grow (length ss) false 0 0 ss)
   unfolding Fine
   tree-fine ss =
       grown (λ inside from end ss t. Each (FineSpan l) ss → Fine l t)
@@ -250,12 +250,12 @@ module _ (l : ℕ) where
       block-fine (fitsBlock ss && not inside) (node atLeast (middle ss) hit miss) (z .1, x (z .0), y (take-fine (length ss / 2) ss f)))
       (length ss) false 0 0 ss (omega arith)
 
-spans-more : (l n : ℕ) (ss : List Span) → l ≤ n → Each (FineSpan l) ss → Each (FineSpan n) ss
+pub spans-more : (l n : ℕ) (ss : List Span) → l ≤ n → Each (FineSpan l) ss → Each (FineSpan n) ss
 spans-more l n [] h f = tt
 spans-more l n (s ∷ ss) h f =
     (record { first = f .0 .first; last = f .0 .last; to = fine-to-more l n (s .to) h (f .0 .to) }, spans-more l n ss h (f .1))
 
-plain-fine : (l n : ℕ) (ss : List Span) → n < 2 ^ 32 → Each (FineSpan l) ss → Each (FineSpan l) (plainSpans n ss)
+pub plain-fine : (l n : ℕ) (ss : List Span) → n < 2 ^ 32 → Each (FineSpan l) ss → Each (FineSpan l) (plainSpans n ss)
 unfolding FineTo
 plain-fine l n [] h f = unfold plainSpans in (record { first = h; last = h; to = tt }, tt)
 plain-fine l n (s ∷ ss) h f =
@@ -275,10 +275,10 @@ module _ (rs : RuleSet) (ranged : InRange rs) where
   abbrev d : ℕ
   d = rs .mismatch
 
-  hm : m < 2 ^ 32
+  pub hm : m < 2 ^ 32
   hm = action-small m (ranged .onMatch)
 
-  hd : d < 2 ^ 32
+  pub hd : d < 2 ^ 32
   hd = action-small d (ranged .mismatch)
 
   return-sound : (n : ℕ) (p : List Instruction) → Sound n p → Sound (n + 1) (return d ∷ p)
@@ -299,7 +299,7 @@ module _ (rs : RuleSet) (ranged : InRange rs) where
         long = (let x = length-append (conditionsCode qs 1) (return m ∷ rest) in let y = h .long in omega arith);
       })
 
-  rules-sound : (qss : List Rule) (rest : List Instruction) → Each Small qss → Sound 1 rest → Sound 1 (ruleBodies m qss ++ rest)
+  pub rules-sound : (qss : List Rule) (rest : List Instruction) → Each Small qss → Sound 1 rest → Sound 1 (ruleBodies m qss ++ rest)
   unfolding ruleBodies
   rules-sound [] rest s h = h
   rules-sound (qs ∷ qss) rest s h =

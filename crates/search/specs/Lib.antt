@@ -1,3 +1,4 @@
 pub mod Search
 pub mod Counts
 pub mod Statements
+pub mod Rules

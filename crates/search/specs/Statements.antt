@@ -10,6 +10,7 @@ use Rattle.definitions.specs.Emitted.{emitted}
 use Rattle.definitions.specs.Format.{InRange}
 use Rattle.definitions.specs.Answer.{ascending, indicesTaken}
 use Rattle.search.specs.Search.{searchForm}
+use Rattle.search.specs.Rules.{rulesForm}
 use Rattle.search.specs.Counts.{searchMost}
 use Rattle.definitions.specs.Compiled.{guardSteps, foundSteps}
 use Rattle.definitions.specs.RuleSet.{spanCount}
@@ -37,3 +38,14 @@ abbrev pub Quick : Type 0
 Quick =
     (rs : RuleSet) → ascending (rs .entries) ≡ true → indicesTaken rs ≡ true → (c : Call) (k : ℕ) → spanCount (rs .entries) ≤ 2 ^ k
     → steps (searchForm rs) c ≤ searchMost k + guardSteps rs c + foundSteps rs c
+
+-- ---- of the form that searches rules too
+
+abbrev pub RulesRight : Type 0
+RulesRight = (rs : RuleSet) → ascending (rs .entries) ≡ true → indicesTaken rs ≡ true → (c : Call) → runs (rulesForm rs) c ≡ returns (meaning rs c)
+
+abbrev pub RulesTaken : Type 0
+RulesTaken = (rs : RuleSet) → InRange rs → indicesTaken rs ≡ true → length (rulesForm rs) ≤ 4096 → accepts (rulesForm rs) ≡ true
+
+abbrev pub RulesShorter : Type 0
+RulesShorter = (rs : RuleSet) → length (rulesForm rs) ≤ length (emitted rs)
