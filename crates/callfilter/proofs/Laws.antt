@@ -22,15 +22,15 @@ use Rattle.theorems.proofs.Lengths.{length-emitted}
 use Rattle.theorems.proofs.Bytes.{length-filter}
 use Rattle.theorems.proofs.Answers.{compiles-by, compiles}
 use Rattle.theorems.proofs.Compiled.{refused, done}
-use Rattle.search.specs.Search.{searchForm}
-use Rattle.search.specs.Counts.{searchSize}
-use Rattle.search.proofs.Shorter.{shorter}
-use Rattle.search.proofs.Searched as searched
+use Rattle.search_form.specs.Search.{searchForm}
+use Rattle.search_form.specs.Counts.{searchSize}
+use Rattle.search_form.proofs.Shorter.{shorter}
+use Rattle.search_form.proofs.Searched as searched
 use Rattle.bpf.specs.Place.{place}
-use Rattle.filter.specs.At.{entriesPast, setHere}
-use Rattle.filter.proofs.Agree.{read-agrees}
-use Rattle.ruleset.specs.Scan.{judged}
-use Rattle.ruleset.specs.declared.Judged.{Judged}
+use Rattle.list_form.specs.At.{entriesPast, setHere}
+use Rattle.list_form.proofs.Agree.{read-agrees}
+use Rattle.judge.specs.Scan.{judged}
+use Rattle.judge.specs.declared.Judged.{Judged}
 use Rattle.callfilter.specs.Verdict.{early, codeFrom, faultIn}
 
 code-by : (a b c d w x y : Bool)

@@ -13,7 +13,7 @@ ghost use Rattle.definitions.specs.Outcome.{outcomeOf, decidedOf};
 ghost use Rattle.definitions.specs.Parts.{withEntry, withRule, conditionPart};
 ghost use Rattle.definitions.specs.Writers.{Started, Added};
 ghost use Rattle.definitions.specs.Readers as readers;
-ghost use Rattle.search.specs.Counts.{searchSize};
+ghost use Rattle.search_form.specs.Counts.{searchSize};
 ghost use Rattle.callfilter.specs.Verdict.{early, codeFrom};
 use definitions::Answer;
 use definitions::Compared;
@@ -89,7 +89,7 @@ fn count_with(code: u32, count: u32) -> u32
 fn verdict(set: &[u8], room: usize) -> Answer
     ensures { λ r. ⌜ r ≡ answers.answerOf (now (set .entry)) room ⌝ }
 {
-    let found = ruleset::judge(set);
+    let found = judge::judge(set);
     let size = found.count;
     let code = code_from(found.code, size, room);
     let count = count_with(code, size as u32);
@@ -109,7 +109,7 @@ pub extern "C" fn callfilter_compile(set: &[u8], out: &mut [u8]) -> Answer
     if r.code != 0 {
         return r;
     }
-    filter::put_filter(out, set);
+    list_form::put_filter(out, set);
     r
 }
 
@@ -117,11 +117,11 @@ pub extern "C" fn callfilter_compile(set: &[u8], out: &mut [u8]) -> Answer
 fn search_verdict(set: &[u8], room: usize) -> Answer
     ensures { λ r. ⌜ r ≡ answers.answerBy searchSize (λ rs. answers.noFault) (read (now (set .entry))) room ⌝ }
 {
-    let found = ruleset::judge(set);
+    let found = judge::judge(set);
     if found.code == 1 {
         return give(1, 0, no_fault());
     }
-    let size = tree::search_length(set);
+    let size = search_writer::search_length(set);
     let code = code_from(found.code, size, room);
     let count = count_with(code, size as u32);
     // a search does not grow entry by entry, so no entry is the one that is too many
@@ -141,7 +141,7 @@ pub extern "C" fn callfilter_compile_search(set: &[u8], out: &mut [u8]) -> Answe
         return answer;
     }
     let count = answer.count as usize;
-    tree::put_search(out, set, count);
+    search_writer::put_search(out, set, count);
     answer
 }
 

@@ -15,12 +15,12 @@ use Rattle.definitions.specs.Answer.{refusal}
 use Rattle.definitions.specs.Outcome.{decided, decidedRead, decidedOf}
 use Rattle.condition.specs.Here.{conditionHere}
 use Rattle.rule.specs.At.{conditionsHere, rulesHere, rulesPast}
-use Rattle.ruleset.specs.declared.Judged.{Judged}
-use Rattle.ruleset.specs.Scan.{judged}
+use Rattle.judge.specs.declared.Judged.{Judged}
+use Rattle.judge.specs.Scan.{judged}
 use Rattle.head.specs.Named.{namedArchitecture, guardsBy}
-use Rattle.filter.specs.At.{entryHere, entryPast, entriesHere, entriesPast, setHere}
-use Rattle.filter.proofs.Laws.{entry-past, entry-further, entry-inside}
-use Rattle.filter.proofs.Agree.{read-agrees}
+use Rattle.list_form.specs.At.{entryHere, entryPast, entriesHere, entriesPast, setHere}
+use Rattle.list_form.proofs.Laws.{entry-past, entry-further, entry-inside}
+use Rattle.list_form.proofs.Agree.{read-agrees}
 
 -- ---- an argument
 

@@ -10,7 +10,7 @@ ghost use Rattle.definitions.specs.RuleSet as defined;
 ghost use Rattle.definitions.specs.Outcome as outcomes;
 ghost use Rattle.head.specs.Named.{guardsBy};
 ghost use Rattle.rule.specs.At.{conditionsHere, rulesHere, rulesPast};
-ghost use Rattle.filter.specs.At.{entriesHere, entriesPast, setHere};
+ghost use Rattle.list_form.specs.At.{entriesHere, entriesPast, setHere};
 use condition::condition_here;
 use definitions::Condition;
 use definitions::Operator;
@@ -200,7 +200,7 @@ pub fn decide(set: &[u8], call: &[u8]) -> Outcome
     if call.len() != 64 {
         return decided(9, 0);
     }
-    let code = ruleset::judge(set).code;
+    let code = judge::judge(set).code;
     if code != 0 {
         return decided(code, 0);
     }

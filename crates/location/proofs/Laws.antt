@@ -15,9 +15,9 @@ use Rattle.theorems.proofs.Lengths.{length-rules}
 use Rattle.condition.specs.Here.{conditionHere}
 use Rattle.rule.specs.At.{conditionsHere, rulesHere, rulesPast}
 use Rattle.rule.proofs.Laws.{past-further}
-use Rattle.ruleset.specs.Scan.{bodyOr}
-use Rattle.filter.specs.At.{entryHere, entryPast, entriesHere, entriesPast}
-use Rattle.filter.proofs.Laws.{entry-past, entry-further, entries-further, entries-many}
+use Rattle.judge.specs.Scan.{bodyOr}
+use Rattle.list_form.specs.At.{entryHere, entryPast, entriesHere, entriesPast}
+use Rattle.list_form.proofs.Laws.{entry-past, entry-further, entries-further, entries-many}
 use Rattle.location.specs.Walk.{passesBy, toldBy, faultIn, firstBy}
 use Rattle.location.proofs.Firsts.{failing-inside, faulty-is, faulty-there}
 

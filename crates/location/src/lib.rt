@@ -8,7 +8,7 @@ ghost use Rattle.definitions.specs.Word.{numberAt};
 ghost use Rattle.definitions.specs.Answer as defined;
 ghost use Rattle.definitions.specs.Answer.{all, firstFailing, faultyRule, tooLong, faultOf};
 ghost use Rattle.rule.specs.At.{conditionsHere, rulesHere, rulesPast};
-ghost use Rattle.filter.specs.At.{entryHere, entryPast, entriesHere, entriesPast, setHere};
+ghost use Rattle.list_form.specs.At.{entryHere, entryPast, entriesHere, entriesPast, setHere};
 ghost use Rattle.location.specs.Walk.{takenBy, passesBy, toldBy, faultIn, entryBy, carriedBy, firstBy};
 use condition::condition_here;
 use definitions::Condition;
@@ -23,7 +23,7 @@ fn is_taken(q: Condition, code: u32) -> bool
     if code == 5 {
         return q.index <= 5;
     }
-    ruleset::fits_width(q)
+    judge::fits_width(q)
 }
 
 // How many of n conditions stand in front of the first that is not taken.
@@ -102,7 +102,7 @@ fn try_entry(s: &[u8], at: usize, carried: usize, code: u32) -> Turn
     let body = rule::rules_length(s, rules, at + 8);
     let past = body.past;
     if code == 6 {
-        let count = carried + ruleset::body_length(rules, body.count) + 2;
+        let count = carried + judge::body_length(rules, body.count) + 2;
         return Turn {
             passes: count < 4097,
             carried: count,

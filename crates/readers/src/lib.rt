@@ -58,10 +58,10 @@ pub fn head_good(architecture: u32, mismatch: u32, on_match: u32) -> bool
     if !head::architecture_known(architecture) {
         return false;
     }
-    if !ruleset::is_action(mismatch) {
+    if !judge::is_action(mismatch) {
         return false;
     }
-    ruleset::is_action(on_match)
+    judge::is_action(on_match)
 }
 
 // Reads the head of a set.
@@ -198,7 +198,7 @@ fn padded(set: &[u8], at: usize) -> bool
 pub fn condition_good(width: u8, operator: u8, mask: u64) -> bool
     ensures { λ r. ⌜ r ≡ conditionGood width operator mask ⌝ }
 {
-    if !ruleset::width_known(width) {
+    if !judge::width_known(width) {
         return false;
     }
     if 6 < operator {

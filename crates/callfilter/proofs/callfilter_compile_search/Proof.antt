@@ -1,7 +1,7 @@
 -- `callfilter_compile_search` meets its contract: a refusal writes nothing, and else the search form is written.
 use native.Mathlib.Omega.{arith}
 use mathlib.Core.Path.{refl}
-use Rattle.search.proofs.Searched.{refused}
+use Rattle.search_form.proofs.Searched.{refused}
 use Rattle.callfilter.proofs.Laws.{search-writable, done-searched}
 use borrow.Author.Needs.{needs}
 use Rattle.callfilter.proofs.callfilter_compile_search.Statement.{statement}

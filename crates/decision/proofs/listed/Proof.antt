@@ -6,8 +6,8 @@ use denote.Ref.{now}
 use Rattle.definitions.specs.Word.{numberAt}
 use Rattle.definitions.specs.Machine.{callOf}
 use Rattle.definitions.specs.RuleSet as defined
-use Rattle.filter.specs.At.{entriesHere, entriesPast}
-use Rattle.filter.proofs.Laws.{entry-past, entries-past-more}
+use Rattle.list_form.specs.At.{entriesHere, entriesPast}
+use Rattle.list_form.proofs.Laws.{entry-past, entries-past-more}
 use Rattle.decision.proofs.Laws.{entry-fits, listed-stop, listed-turn, listed-end}
 use Rattle.decision.proofs.listed.Statement.{statement}
 use Rattle.decision.proofs.listed.Tie as tie

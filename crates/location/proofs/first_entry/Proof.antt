@@ -5,7 +5,7 @@ use Prim.Native.Nat.{ℕ, _+_, _-_, _≤_}
 use native.Mathlib.Omega.{arith}
 use borrow.Author.Tests.{not-true, not-false}
 use denote.Ref.{now}
-use Rattle.filter.specs.At.{entriesHere, entriesPast}
+use Rattle.list_form.specs.At.{entriesHere, entriesPast}
 use Rattle.location.specs.Walk.{firstBy}
 use Rattle.location.proofs.Firsts.{walk-none, walk-stop, walk-turn}
 use Rattle.location.proofs.Laws.{whole, entries-more, entries-none, entry-next, entry-within}

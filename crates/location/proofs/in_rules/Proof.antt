@@ -5,9 +5,9 @@ use borrow.Author.Needs.{needs}
 use denote.Ref.{now}
 use Rattle.definitions.specs.Answer.{fault}
 use Rattle.rule.specs.At.{conditionsHere}
-use Rattle.filter.specs.At.{entriesHere}
+use Rattle.list_form.specs.At.{entriesHere}
 use Rattle.location.proofs.Firsts.{faulty-none}
-use Rattle.filter.proofs.Laws.{entries-many}
+use Rattle.list_form.proofs.Laws.{entries-many}
 use Rattle.location.proofs.Laws.{entry-found}
 use Rattle.location.proofs.in_rules.Statement.{statement}
 use Rattle.location.proofs.in_rules.Tie as tie

@@ -8,7 +8,7 @@ use Rattle.definitions.specs.Word.{numberAt}
 use Rattle.definitions.specs.RuleSet.{guarded}
 use Rattle.theorems.proofs.Heads.{length-head}
 use Rattle.head.specs.Named.{namedArchitecture, guardsBy}
-use Rattle.filter.specs.At.{setHere}
+use Rattle.list_form.specs.At.{setHere}
 use Rattle.location.proofs.Firsts.{at-number, at-length, at-rule, at-index, at-width, at-none}
 use Rattle.location.proofs.locate.Statement.{statement}
 use Rattle.location.proofs.locate.Tie as tie

@@ -6,8 +6,8 @@ use borrow.Author.Needs.{needs}
 use borrow.Author.Tests.{ltb-true}
 use denote.Ref.{now}
 use Rattle.rule.specs.At.{rulesHere}
-use Rattle.filter.specs.At.{entryHere}
-use Rattle.filter.proofs.Laws.{entry-past}
+use Rattle.list_form.specs.At.{entryHere}
+use Rattle.list_form.proofs.Laws.{entry-past}
 use Rattle.location.specs.Walk.{passesBy}
 use Rattle.location.proofs.Firsts.{failing-all, turn-length, turn-number, turn-rules}
 use Rattle.location.proofs.Laws.{rules-inside, rules-many, body-long, body-small}

@@ -1,0 +1,148 @@
+-- Laws of a filter's instructions and of the places that its entries are read from: one turn of the loop, its end, and how the parts
+-- make up the whole. Assumes nothing.
+use mathlib.Core.Path.{_≡_, refl, ap}
+use mathlib.Core.Bool.{true, false, not}
+use mathlib.Core.List.{List, [], _∷_, _++_, append-assoc}
+use Prim.Native.Nat.{ℕ, zero, suc, _+_, _-_, _*_, _≤_, _<_}
+use native.Mathlib.Omega.{arith}
+use lib.Dec.{eqb}
+use lib.ListN.{length, length-append}
+use borrow.Author.Tests.{eq-eqb, eqb-true}
+use Rattle.definitions.specs.declared.Instruction.{Instruction}
+use Rattle.definitions.specs.Word.{numberAt}
+use Rattle.definitions.specs.Machine.{instructionBytes, filterBytes}
+use Rattle.definitions.specs.RuleSet.{guarded}
+use Rattle.definitions.specs.Emitted.{jumpBy, ifEqual, return, rulesCode, bodyCode, entryCode, entriesCode, numbersCode, headCode, headed, emitted}
+use Rattle.theorems.proofs.Tests.{both-true}
+use Rattle.bpf.specs.Place.{place}
+use Rattle.bpf.proofs.Laws.{put-first, put-next, puts-append}
+use Rattle.head.specs.Named.{namedArchitecture, guardsBy}
+use Rattle.rule.specs.At.{rulesHere, rulesPast}
+use Rattle.rule.proofs.Laws.{past-none, past-further}
+use Rattle.list_form.specs.At.{entryHere, entryPast, entriesHere, entriesPast, plainHere, setHere}
+
+-- ---- an instruction, a run of them, and an instruction
+
+pub put-around : (l : List ℕ) (at end : ℕ) (i : Instruction) (is : List Instruction) (j : Instruction)
+    → end ≡ at + 8 + 8 * length is → end + 8 ≤ length l
+    → place (place (place l at (instructionBytes i)) (at + 8) (filterBytes is)) end (instructionBytes j) ≡ place l at (filterBytes (i ∷ (is ++ (j ∷ []))))
+put-around l at end i is j e h =
+    rw (put-first l at i, puts-append l at (at + 8) (i ∷ []) is (omega arith) (omega arith))
+    (put-next l at end (i ∷ is) j (omega arith) h)
+
+-- ---- the rules of an entry
+
+pub body-always : (m : ℕ) → bodyCode m [] ≡ jumpBy 1 ∷ jumpBy 2 ∷ return m ∷ []
+unfolding bodyCode
+body-always m = refl
+
+pub body-none : (s : List ℕ) (n at m : ℕ) → n ≡ 0 → bodyCode m (rulesHere s n at) ≡ bodyCode m []
+unfolding rulesHere
+body-none s n at m e = rw e
+
+pub body-some : (s : List ℕ) (n at m : ℕ) → (n ≡ 0 → ⊥) → bodyCode m (rulesHere s n at) ≡ rulesCode m (rulesHere s n at)
+unfolding bodyCode rulesHere
+body-some s zero at m h = absurd (h refl)
+body-some s (suc n) at m h = refl
+
+-- ---- an entry, from the bytes
+
+pub entry-is : (s : List ℕ) (at m d : ℕ)
+    → entryCode m d (entryHere s at) ≡ ifEqual (numberAt 4 s at) 0 1 ∷ (bodyCode m (rulesHere s (numberAt 4 s (at + 4)) (at + 8)) ++ (return d ∷ []))
+unfolding entryCode entryHere
+entry-is s at m d = refl
+
+pub entry-length : (s : List ℕ) (at m d : ℕ)
+    → length (entryCode m d (entryHere s at)) ≡ 2 + length (bodyCode m (rulesHere s (numberAt 4 s (at + 4)) (at + 8)))
+entry-length s at m d = rw (entry-is s at m d) (simp length-append (omega arith))
+
+pub entry-past : (s : List ℕ) (at : ℕ) → entryPast s at ≡ rulesPast s (numberAt 4 s (at + 4)) (at + 8)
+unfolding entryPast
+entry-past s at = refl
+
+pub entry-further : (s : List ℕ) (at : ℕ) → at + 8 ≤ entryPast s at
+entry-further s at = rw (entry-past s at) (past-further s (numberAt 4 s (at + 4)) (at + 8))
+
+-- ---- entries, from the bytes
+
+pub entries-more : (s : List ℕ) (n at m d : ℕ) → (n ≡ 0 → ⊥)
+    → entriesCode m d (entriesHere s n at) ≡ entryCode m d (entryHere s at) ++ entriesCode m d (entriesHere s (n - 1) (entryPast s at))
+unfolding entriesCode entriesHere
+entries-more s zero at m d h = absurd (h refl)
+entries-more s (suc n) at m d h = let e : suc n - 1 ≡ n = omega arith in rw e
+
+pub entries-none : (s : List ℕ) (n at m d : ℕ) → n ≡ 0 → entriesCode m d (entriesHere s n at) ≡ []
+unfolding entriesCode entriesHere
+entries-none s n at m d e = rw e
+
+pub entries-past-more : (s : List ℕ) (n at : ℕ) → (n ≡ 0 → ⊥) → entriesPast s n at ≡ entriesPast s (n - 1) (entryPast s at)
+unfolding entriesPast
+entries-past-more s zero at h = absurd (h refl)
+entries-past-more s (suc n) at h = let e : suc n - 1 ≡ n = omega arith in rw e
+
+pub entries-further : (s : List ℕ) (n at : ℕ) → at ≤ entriesPast s n at
+unfolding entriesPast
+entries-further s zero at = omega arith
+entries-further s (suc n) at = omega (arith, entry-further s at, entries-further s n (entryPast s at))
+
+-- where all that is left ends in the bytes, the next entry does
+pub entry-inside : (s : List ℕ) (n at past : ℕ) → (n ≡ 0 → ⊥) → entriesPast s n at ≡ past → past ≤ length s → entryPast s at ≤ length s
+entry-inside s n at past h e i = omega (arith, entries-past-more s n at h, entries-further s (n - 1) (entryPast s at))
+
+-- ---- entries without rules
+
+pub plain-is : (s : List ℕ) (n at : ℕ) → plainHere s n at ≡ true → (n ≡ 0 → ⊥) × (numberAt 4 s (at + 4) ≡ 0)
+unfolding plainHere
+plain-is s n at h =
+    let p = both-true (not (eqb n 0)) (eqb (numberAt 4 s (at + 4)) 0) h in
+    (λ e. let z : _≡_ {A = ℕ} 0 1 = cc (eq-eqb n 0 e, p .0) in omega arith, eqb-true _ _ (p .1))
+
+pub plain-past : (s : List ℕ) (at : ℕ) → numberAt 4 s (at + 4) ≡ 0 → entryPast s at ≡ at + 8
+plain-past s at e = rw (entry-past s at) (past-none s (numberAt 4 s (at + 4)) (at + 8) e)
+
+pub plain-code : (s : List ℕ) (at m d : ℕ) → numberAt 4 s (at + 4) ≡ 0
+    → entryCode m d (entryHere s at) ≡ ifEqual (numberAt 4 s at) 0 1 ∷ (bodyCode m [] ++ (return d ∷ []))
+plain-code s at m d e = rw (entry-is s at m d, body-none s (numberAt 4 s (at + 4)) (at + 8) m e)
+
+pub plain-length : (s : List ℕ) (at m d : ℕ) → numberAt 4 s (at + 4) ≡ 0 → length (entryCode m d (entryHere s at)) ≡ 5
+plain-length s at m d e = rw (plain-code s at m d e, body-always m)
+
+-- where the walk over such entries ends elsewhere than it began, it has passed one
+pub plain-passed : (s : List ℕ) (n from run at : ℕ) → plainHere s n from ≡ true → plainHere s (n - run) at ≡ false → at ≡ from + 8 * run → 0 < run
+plain-passed s n from zero at h stop e =
+    let a : at ≡ from = omega arith in
+    let l : n - 0 ≡ n = omega arith in
+    absurd (let z : _≡_ {A = ℕ} 0 1 = cc in omega arith)
+plain-passed s n from (suc run) at h stop e = omega arith
+
+-- ---- the whole filter
+
+pub entries-many : (s : List ℕ) (n at : ℕ) → length (entriesHere s n at) ≡ n
+unfolding entriesHere
+entries-many s zero at = refl
+entries-many s (suc n) at = ap suc (entries-many s n (entryPast s at))
+
+-- the head of the set that is here, and its entries
+abbrev pub headHere : List ℕ → List Instruction
+headHere s = headCode (namedArchitecture (numberAt 4 s 0)) (guardsBy (numberAt 4 s 0)) (numberAt 4 s 12)
+
+abbrev pub codeHere : List ℕ → List Instruction
+codeHere s = entriesCode (numberAt 4 s 8) (numberAt 4 s 4) (entriesHere s (numberAt 4 s 12) 16)
+
+-- code behind the head of the set that is here
+pub headed-is : (s : List ℕ) (p : List Instruction) → headed (setHere s) p ≡ headHere s ++ p
+unfolding setHere guarded guardsBy
+headed-is s p = rw (entries-many s (numberAt 4 s 12) 16)
+
+pub filter-is : (s : List ℕ) → emitted (setHere s) ≡ headHere s ++ (codeHere s ++ (return (numberAt 4 s 4) ∷ []))
+unfolding emitted numbersCode setHere
+filter-is s = headed-is s _
+
+pub filter-length : (s : List ℕ) → length (emitted (setHere s)) ≡ length (headHere s) + length (codeHere s) + 1
+filter-length s = rw (filter-is s, length-append, length-append) (omega arith)
+
+-- a head, a run of instructions behind it, and an instruction
+pub put-headed : (l : List ℕ) (at end : ℕ) (h is : List Instruction) (j : Instruction) → at ≡ 8 * length h → end ≡ at + 8 * length is → end + 8 ≤ length l
+    → place (place (place l 0 (filterBytes h)) at (filterBytes is)) end (instructionBytes j) ≡ place l 0 (filterBytes (h ++ (is ++ (j ∷ []))))
+put-headed l at end h is j e f room =
+    rw (puts-append l 0 at h is (omega arith) (omega arith), put-next l 0 end (h ++ is) j (omega (arith, length-append h is)) room, append-assoc)

@@ -1,0 +1,139 @@
+// The code of rules as the search form has it, without jumps between them, counted and written from a rule set's bytes, which the caller
+// has shown to be in the format.
+ghost use mathlib.Core.Path.{_≡_};
+ghost use Prim.Native.Nat.{ℕ, _+_, _*_, _≤_};
+ghost use lib.ListN.{length};
+ghost use Rattle.definitions.specs.Machine.{filterBytes};
+ghost use Rattle.bpf.specs.Place.{place};
+ghost use Rattle.rule.specs.At.{conditionsHere, rulesHere, rulesPast};
+ghost use Rattle.list_form.specs.At.{entriesHere, entriesPast};
+ghost use Rattle.search_form.specs.Search.{bodies};
+ghost use Rattle.definitions.specs.Emitted.{ruleBody, ruleBodies, entryBody};
+ghost use Rattle.search_bodies.specs.Here.{bodiesHere};
+use rule::Length;
+use rule::Written;
+
+// How many instructions the n rules of an entry have here, and the place behind them in the rule set.
+pub fn body_length(s: &[u8], n: u32, from: usize) -> Length
+    requires { ⌜ (rulesPast (now s) n from ≤ length (now s)) × (length (now s) ≤ 1048576) ⌝ }
+    ensures { λ r. ⌜ ((m d : ℕ) → length (entryBody m d (rulesHere (now (s .entry)) n from)) ≡ r .count)
+        × (r .past ≡ rulesPast (now (s .entry)) n from) × (r .count + from ≤ r .past) ⌝ }
+{
+    if n == 0 {
+        return Length {
+            count: 0,
+            past: from,
+        };
+    }
+    let rules = rule::rules_length(s, n, from);
+    // each without its two jumps, and a return behind them
+    Length {
+        count: rules.count - 2 * (n as usize) + 1,
+        past: rules.past,
+    }
+}
+
+// How many instructions the code of the n entries' rules has, with the return behind it.
+pub fn bodies_length(s: &[u8], n: u32, from: usize) -> usize
+    requires { ⌜ (entriesPast (now s) n from ≤ length (now s)) × (length (now s) ≤ 1048576) ⌝ }
+    ensures { λ r. ⌜ (r ≡ length (bodiesHere (now (s .entry)) n from)) × (r ≤ 1048577) ⌝ }
+{
+    let mut count: usize = 1;
+    let mut past = from;
+    let mut left = n;
+    while left != 0 {
+        let rules = bpf::u32_at(s, past + 4);
+        let body = body_length(s, rules, past + 8);
+        count = count + body.count;
+        past = body.past;
+        left = left - 1;
+    }
+    count
+}
+
+// Writes a rule of n conditions at a place, without the two jumps that it has in the emitted form, and answers the place behind it.
+// Match action m.
+fn put_rule_body(out: &mut [u8], s: &[u8], n: u32, from: usize, at: usize, m: u32) -> usize
+    requires { ⌜ (from + 24 * n ≤ length (now s)) × (length (now s) ≤ 1048576) ⌝ }
+    requires { ⌜ at + 8 * length (ruleBody m (conditionsHere (now s) n from)) ≤ length (now out) ⌝ }
+    ensures { λ r. ⌜ (now (out .exit) ≡ place (now (out .entry)) at (filterBytes (ruleBody m (conditionsHere (now (s .entry)) n from))))
+        × (r ≡ at + 8 * length (ruleBody m (conditionsHere (now (s .entry)) n from))) ⌝ }
+{
+    let last = at + 8 * rule::rule_length(s, n, from) - 24;
+    bpf::put(out, last, bpf::give(m));
+    rule::put_conditions(out, s, n, from, last);
+    last + 8
+}
+
+// Writes n rules at a place. Match action m.
+fn put_rule_bodies(out: &mut [u8], s: &[u8], n: u32, from: usize, at: usize, m: u32) -> Written
+    requires { ⌜ (rulesPast (now s) n from ≤ length (now s)) × (length (now s) ≤ 1048576) ⌝ }
+    requires { ⌜ at + 8 * length (ruleBodies m (rulesHere (now s) n from)) ≤ length (now out) ⌝ }
+    ensures { λ r. ⌜ (now (out .exit) ≡ place (now (out .entry)) at (filterBytes (ruleBodies m (rulesHere (now (s .entry)) n from))))
+        × (r .end ≡ at + 8 * length (ruleBodies m (rulesHere (now (s .entry)) n from)))
+        × (r .past ≡ rulesPast (now (s .entry)) n from) ⌝ }
+{
+    let mut end = at;
+    let mut past = from;
+    let mut left = n;
+    while left != 0 {
+        let conditions = bpf::u32_at(s, past);
+        end = put_rule_body(out, s, conditions, past + 4, end, m);
+        past = rule::rule_past(past, conditions);
+        left = left - 1;
+    }
+    Written {
+        end: end,
+        past: past,
+    }
+}
+
+// Writes the n rules of an entry at a place, with a mismatch return behind them. Match action m, mismatch action d.
+fn put_entry_body(
+    out: &mut [u8],
+    s: &[u8],
+    n: u32,
+    from: usize,
+    at: usize,
+    m: u32,
+    d: u32,
+) -> Written
+    requires { ⌜ (rulesPast (now s) n from ≤ length (now s)) × (length (now s) ≤ 1048576) ⌝ }
+    requires { ⌜ at + 8 * length (entryBody m d (rulesHere (now s) n from)) ≤ length (now out) ⌝ }
+    ensures { λ r. ⌜ (now (out .exit) ≡ place (now (out .entry)) at (filterBytes (entryBody m d (rulesHere (now (s .entry)) n from))))
+        × (r .end ≡ at + 8 * length (entryBody m d (rulesHere (now (s .entry)) n from)))
+        × (r .past ≡ rulesPast (now (s .entry)) n from) ⌝ }
+{
+    if n == 0 {
+        return Written {
+            end: at,
+            past: from,
+        };
+    }
+    let rules = put_rule_bodies(out, s, n, from, at, m);
+    let last = rules.end;
+    bpf::put(out, last, bpf::give(d));
+    Written {
+        end: last + 8,
+        past: rules.past,
+    }
+}
+
+// Writes the rules of n entries at a place, with a mismatch return behind them. Match action m, mismatch action d.
+pub fn put_bodies(out: &mut [u8], s: &[u8], n: u32, from: usize, at: usize, m: u32, d: u32)
+    requires { ⌜ (entriesPast (now s) n from ≤ length (now s)) × (length (now s) ≤ 1048576) ⌝ }
+    requires { ⌜ at + 8 * length (bodies m d (entriesHere (now s) n from)) ≤ length (now out) ⌝ }
+    ensures { λ _. ⌜ now (out .exit) ≡ place (now (out .entry)) at (filterBytes (bodies m d (entriesHere (now (s .entry)) n from))) ⌝ }
+{
+    let mut end = at;
+    let mut past = from;
+    let mut left = n;
+    while left != 0 {
+        let rules = bpf::u32_at(s, past + 4);
+        let entry = put_entry_body(out, s, rules, past + 8, end, m, d);
+        end = entry.end;
+        past = entry.past;
+        left = left - 1;
+    }
+    bpf::put(out, end, bpf::give(d));
+}

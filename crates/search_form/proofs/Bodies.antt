@@ -1,0 +1,176 @@
+-- The code of the rules behind the tree: it answers as the rules say, whatever was loaded before and whatever stands behind it, and the
+-- spans lead there.
+use mathlib.Core.Path.{_≡_, refl, _∙_}
+use mathlib.Core.Bool.{Bool, true, false, cond, _&&_, and-true}
+use mathlib.Core.List.{List, [], _∷_, _++_, append-assoc}
+use Prim.Native.Nat.{ℕ, _+_, _-_}
+use native.Mathlib.Omega.{arith}
+use lib.Dec.{eqb, ltb}
+use lib.ListN.{length, length-append}
+use Rattle.definitions.specs.declared.Instruction.{Instruction}
+use Rattle.definitions.specs.declared.Width.{Width}
+use Rattle.definitions.specs.declared.Width.the-variants.{Dword, Qword}
+use Rattle.definitions.specs.declared.Condition.{Condition}
+use Rattle.definitions.specs.Machine.{Call, State, Result, returns, setA, start}
+use Rattle.definitions.specs.RuleSet.{Rule, Entry, holds, allHold, anyHolds, matches, listed}
+use Rattle.definitions.specs.Format.{Each}
+use Rattle.definitions.specs.Emitted.{jumpBy, return, reach, highPart, lowPart, onlyQword, conditionCode, helpers, near, stepCode, stepDistance, conditionsCode, distance}
+use Rattle.theorems.proofs.Steps.{run-jump, run-return, skip1, skip2, skip-one}
+use Rattle.theorems.proofs.Conditions.{Goes, condition-right, cond-and, cond-or}
+use Rattle.theorems.proofs.Heads.{cond-returns}
+use Rattle.theorems.proofs.Rules.{IndexTaken, jump-over}
+use Rattle.theorems.proofs.Right.{EntryTaken}
+use Rattle.search_form.specs.Search.{bodies, toMatch, toRules, Span, entrySpans, spans, ground}
+use Rattle.definitions.specs.Emitted.{ruleBody, ruleBodies, entryBody}
+use Rattle.definitions.specs.Compiled.{rulesSteps}
+use Rattle.definitions.specs.RuleSet.{rulesOf}
+use Rattle.search_form.proofs.Grow.{seek, Sorted}
+use Rattle.search_form.proofs.Spans.{seek-alone, seek-plain, Rising, spans-sorted}
+use Rattle.search_form.proofs.Steps.{count-return, count-within, Opens, loads, returning, count-opens, over-append}
+use Rattle.search_form.proofs.Found.{Ends, ends-over, Leads, leads-over, Ready}
+
+-- ---- what a rule answers
+
+-- Code p of a rule that is being built, with the distance d for the condition in front. `b`: the conditions placed so far hold;
+-- `y`, `n`: the results where they do and where not.
+record Built (c : Call) (y n : Result) (b : Bool) (d : ℕ) (p : List Instruction) : Type 0 where
+  here : Goes 0 p c (cond b y n)
+  fail : Goes d p c n
+
+module _ (c : Call) (y n : Result) where
+  helpers-built : (b : Bool) (d : ℕ) (p : List Instruction) → Built c y n b d p → Built c y n b (near d) (helpers d ++ p)
+  unfolding helpers near
+  helpers-built b d p h = go (ltb reach d)
+    where
+      go : (t : Bool) → Built c y n b (cond t 1 d) (cond t (jumpBy 2 ∷ jumpBy (d + 1) ∷ jumpBy (d + 1) ∷ []) [] ++ p)
+      go true = record { here = λ s. simp (run-jump, skip2) (h .here s); fail = λ s. simp (skip1, run-jump, skip-one) (h .fail s) }
+      go false = h
+
+  step-built : (b : Bool) (q : Condition) (d : ℕ) (p : List Instruction) → IndexTaken q → Built c y n b d p
+      → Built c y n (holds c q && b) (stepDistance q d) (stepCode q d ++ p)
+  unfolding stepDistance stepCode
+  step-built b q d p g h =
+      let x = helpers-built b d p h in
+      rw append-assoc (record {
+        here = λ s. rw cond-and (condition-right q (near d) (helpers d ++ p) c g (x .here) (x .fail) s);
+        fail = λ s. rw jump-over (x .fail s);
+      })
+
+  regroup : (a b d : Bool) → (b && (a && d)) ≡ ((a && b) && d)
+  regroup true true d = refl
+  regroup true false d = refl
+  regroup false true d = refl
+  regroup false false d = refl
+
+  conditions-built : (b : Bool) (qs : Rule) (d : ℕ) (p : List Instruction) → Each IndexTaken qs → Built c y n b d p
+      → Built c y n (allHold c qs && b) (distance qs d) (conditionsCode qs d ++ p)
+  unfolding distance conditionsCode allHold
+  conditions-built b [] d p g h = h
+  conditions-built b (q ∷ qs) d p g h =
+      rw (append-assoc, ← regroup (holds c q) (allHold c qs) b)
+      (conditions-built (holds c q && b) qs (stepDistance q d) (stepCode q d ++ p) (g .1) (step-built b q d p (g .0) h))
+
+module _ (c : Call) (m : ℕ) where
+  rule-right : (n : Result) (qs : Rule) (rest : List Instruction) → Each IndexTaken qs → Goes 0 rest c n
+      → Goes 0 (ruleBody m qs ++ rest) c (cond (allHold c qs) (returns m) n)
+  unfolding ruleBody
+  rule-right n qs rest g h s =
+      let x = conditions-built c (returns m) n true qs 1 (return m ∷ rest) g
+      (record { here = λ t. run-return rest t c m; fail = λ t. skip1 rest t c (return m) ∙ h t }) in
+      rw append-assoc (rw and-true at (x .here s))
+
+  pub rules-right : (n : Result) (rs : List Rule) (rest : List Instruction) → Each (Each IndexTaken) rs → Goes 0 rest c n
+      → Goes 0 (ruleBodies m rs ++ rest) c (cond (anyHolds c rs) (returns m) n)
+  unfolding ruleBodies anyHolds
+  rules-right n [] rest g h s = h s
+  rules-right n (r ∷ rs) rest g h s =
+      rw (append-assoc, cond-or) (rule-right (cond (anyHolds c rs) (returns m) n) r (ruleBodies m rs ++ rest) (g .0) (rules-right n rs rest (g .1) h) s)
+
+-- ---- it asks for nothing that was loaded before
+
+onto-load : (w : Width) (p q : List Instruction) → Opens p → Opens q → Opens (onlyQword w p ++ q)
+onto-load Dword p q a b = b
+onto-load Qword (i ∷ p) q (loads k r) b = loads k _
+onto-load Qword (i ∷ p) q (returning k r) b = returning k _
+
+opens-append : (p q : List Instruction) → Opens p → Opens (p ++ q)
+opens-append p q (loads k r) = loads k _
+opens-append p q (returning k r) = returning k _
+
+conditions-open : (qs : Rule) (d : ℕ) (p : List Instruction) → Opens p → Opens (conditionsCode qs d ++ p)
+unfolding conditionsCode stepCode conditionCode highPart lowPart
+conditions-open [] d p o = o
+conditions-open (q ∷ qs) d p o =
+    rw (append-assoc (conditionsCode qs (stepDistance q d)) (stepCode q d) p)
+    (conditions-open qs (stepDistance q d) (stepCode q d ++ p)
+    (opens-append (stepCode q d) p (opens-append (conditionCode q (near d)) (helpers d) (onto-load (q .width) (highPart q (near d)) (lowPart q (near d)) (loads _ _) (loads _ _)))))
+
+pub rules-open : (m : ℕ) (r : Rule) (rs : List Rule) (p : List Instruction) → Opens (ruleBodies m (r ∷ rs) ++ p)
+unfolding ruleBodies ruleBody
+rules-open m r rs p = opens-append (ruleBody m r ++ ruleBodies m rs) p (opens-append (ruleBody m r) (ruleBodies m rs) (conditions-open r 1 (return m ∷ []) (returning m [])))
+
+-- ---- the spans lead to it
+
+module _ (c : Call) (m d : ℕ) where
+  -- the state in which the tree is entered
+  abbrev pub loaded : State
+  loaded = setA (c .number) start
+
+  entry-ends : (r : Rule) (rs : List Rule) (rest : List Instruction) → Each (Each IndexTaken) (r ∷ rs)
+      → Ends c loaded (c .number) refl (length (entryBody m d (r ∷ rs) ++ rest)) (entryBody m d (r ∷ rs) ++ rest)
+      (returns (cond (anyHolds c (r ∷ rs)) m d)) (rulesSteps m d (r ∷ rs) c)
+  unfolding entryBody rulesSteps
+  entry-ends r rs rest g =
+      let all : List Instruction = ruleBodies m (r ∷ rs) ++ (return d ∷ []) in
+      let zero-left : length (all ++ rest) - length (all ++ rest) ≡ 0 = omega arith in
+      let answers : (p : List Instruction) → Goes 0 (ruleBodies m (r ∷ rs) ++ (return d ∷ p)) c (returns (cond (anyHolds c (r ∷ rs)) m d)) =
+      λ p s. rules-right c m (returns d) (r ∷ rs) (return d ∷ p) g (λ t. run-return p t c d) s ∙ cond-returns (anyHolds c (r ∷ rs)) m d in
+      record {
+        pos = omega (arith, length-append all rest, length-append (ruleBodies m (r ∷ rs)) (return d ∷ []));
+        inside = omega arith;
+        goes = rw (zero-left, append-assoc) (answers rest loaded);
+        upto =
+            let within = count-within all rest loaded c _ (answers [] loaded) in
+            let alike = count-opens all c (c .number) (rules-open m r rs (return d ∷ [])) in
+            rw (zero-left, within, alike) (omega arith);
+      }
+
+  entry-leads : (n : ℕ) (rs : List Rule) (ss : List Span) (p : List Instruction) (v : ℕ) (others : List Rule) → Each (Each IndexTaken) rs → Sorted (n + 1) ss
+      → Leads c loaded (c .number) refl m d p (seek ss (c .number)) (returns v) (rulesSteps m d others c)
+      → Leads c loaded (c .number) refl m d (entryBody m d rs ++ p) (seek (entrySpans n rs (length (entryBody m d rs ++ p)) ss) (c .number))
+      (returns (cond (eqb (c .number) n) (cond (matches c rs) m d) v)) (rulesSteps m d (cond (eqb (c .number) n) rs others) c)
+  unfolding entryBody entrySpans matches Leads rulesSteps
+  entry-leads n [] ss p v others g o h = rw (seek-plain (c .number) n ss o) (go (eqb (c .number) n))
+    where
+      go : (t : Bool) → Leads c loaded (c .number) refl m d p (cond t toMatch (seek ss (c .number))) (returns (cond t m v)) (rulesSteps m d (cond t [] others) c)
+      go true = (refl, omega arith)
+      go false = h
+  entry-leads n (r ∷ rs) ss p v others g o h = rw (seek-alone (c .number) n (toRules (length (entryBody m d (r ∷ rs) ++ p))) ss) (go (eqb (c .number) n))
+    where
+      go : (t : Bool) → Leads c loaded (c .number) refl m d (entryBody m d (r ∷ rs) ++ p) (cond t (toRules (length (entryBody m d (r ∷ rs) ++ p))) (seek ss (c .number)))
+          (returns (cond t (cond (anyHolds c (r ∷ rs)) m d) v)) (rulesSteps m d (cond t (r ∷ rs) others) c)
+      go true = entry-ends r rs p g
+      go false = leads-over c loaded (c .number) refl m d p (entryBody m d (r ∷ rs) ++ p) (seek ss (c .number)) (returns v) (rulesSteps m d others c) (over-append (entryBody m d (r ∷ rs)) p) h
+
+  pub bodies-lead : (b : ℕ) (es : List Entry) → Each EntryTaken es → Rising b es
+      → Leads c loaded (c .number) refl m d (bodies m d es) (seek (spans m d es) (c .number)) (returns (listed c m d es)) (rulesSteps m d (rulesOf (c .number) es) c)
+  unfolding bodies spans listed rulesOf Rising
+  bodies-lead b [] g a = unfold seek Leads rulesSteps in (refl, omega arith)
+  bodies-lead b (e ∷ es) g a =
+      entry-leads (e .number) (e .rules) (spans m d es) (bodies m d es) (listed c m d es) (rulesOf (c .number) es) (g .0)
+      (spans-sorted m d (e .number + 1) es (a .1)) (bodies-lead (e .number + 1) es (g .1) (a .1))
+
+  last-ends : (es : List Entry) → Ends c loaded (c .number) refl 1 (bodies m d es) (returns d) 1
+  unfolding bodies
+  last-ends [] = record {
+    pos = omega arith;
+    inside = omega arith;
+    goes = run-return [] loaded c d;
+    upto = rw count-return (omega arith);
+  }
+  last-ends (e ∷ es) =
+      ends-over c loaded (c .number) refl 1 (bodies m d es) (entryBody m d (e .rules) ++ bodies m d es) (returns d) 1 (over-append (entryBody m d (e .rules)) (bodies m d es)) (last-ends es)
+
+  pub ground-ready : (es : List Entry) → Ready c loaded (c .number) refl m d (ground m d es)
+  unfolding ground
+  ground-ready es = record { onMatch = λ q. absurd (omega arith); onMismatch = λ q. last-ends es }
