@@ -27,10 +27,10 @@ use Rattle.search_form.specs.Counts.{searchSize}
 use Rattle.search_form.proofs.Shorter.{shorter}
 use Rattle.search_form.proofs.Searched as searched
 use Rattle.bpf.specs.Place.{place}
-use Rattle.list_form.specs.At.{entriesPast, setHere}
-use Rattle.list_form.proofs.Agree.{read-agrees}
 use Rattle.judge.specs.Scan.{judged}
 use Rattle.judge.specs.declared.Judged.{Judged}
+use Rattle.set_view.specs.Parts.{entriesPast, setHere}
+use Rattle.set_view.proofs.Agree.{read-agrees}
 use Rattle.callfilter.specs.Verdict.{early, codeFrom, faultIn}
 
 code-by : (a b c d w x y : Bool)

@@ -9,7 +9,8 @@ ghost use Rattle.definitions.specs.Emitted.{load, lowPart, highPart, conditionC
 ghost use Rattle.definitions.specs.declared.Width.the-variants.{Dword, Qword};
 ghost use Rattle.theorems.specs.Length.{conditionLength};
 ghost use Rattle.bpf.specs.Place.{PutBefore};
-ghost use Rattle.condition.specs.Here.{namedWidth, namedOperator, conditionHere};
+ghost use Rattle.set_view.specs.Names.{namedOperator, namedWidth};
+ghost use Rattle.set_view.specs.Parts.{conditionHere};
 use bpf::if_at_least;
 use bpf::if_equal;
 use bpf::if_greater;
@@ -18,57 +19,6 @@ use definitions::Condition;
 use definitions::Instruction;
 use definitions::Operator;
 use definitions::Width;
-
-fn named_width(b: u8) -> Width
-    ensures { λ r. ⌜ r ≡ namedWidth b ⌝ }
-{
-    if b == 4 {
-        return Width::Dword;
-    }
-    Width::Qword
-}
-
-fn named_operator(b: u8) -> Operator
-    ensures { λ r. ⌜ r ≡ namedOperator b ⌝ }
-{
-    if b == 0 {
-        return Operator::Eq;
-    }
-    if b == 1 {
-        return Operator::Ge;
-    }
-    if b == 2 {
-        return Operator::Gt;
-    }
-    if b == 3 {
-        return Operator::Le;
-    }
-    if b == 4 {
-        return Operator::Lt;
-    }
-    if b == 5 {
-        return Operator::MaskedEq;
-    }
-    Operator::Ne
-}
-
-// The condition that stands at a place.
-pub fn condition_here(s: &[u8], at: usize) -> Condition
-    requires { ⌜ at + 24 ≤ length (now s) ⌝ }
-    ensures { λ r. ⌜ r ≡ conditionHere (now (s .entry)) at ⌝ }
-{
-    let width = named_width(s[at + 1]);
-    let operator = named_operator(s[at + 2]);
-    let value = bpf::u64_at(s, at + 8);
-    let mask = bpf::u64_at(s, at + 16);
-    Condition {
-        index: s[at],
-        width: width,
-        operator: operator,
-        value: value,
-        mask: mask,
-    }
-}
 
 fn high(x: u64) -> u32
     ensures { λ r. ⌜ r ≡ word.high x ⌝ }

@@ -13,14 +13,12 @@ use Rattle.definitions.specs.RuleSet.{RuleSet, architectureWord, inSecondTable,
 use Rattle.definitions.specs.Format.{read}
 use Rattle.definitions.specs.Answer.{refusal}
 use Rattle.definitions.specs.Outcome.{decided, decidedRead, decidedOf}
-use Rattle.condition.specs.Here.{conditionHere}
-use Rattle.rule.specs.At.{conditionsHere, rulesHere, rulesPast}
 use Rattle.judge.specs.declared.Judged.{Judged}
 use Rattle.judge.specs.Scan.{judged}
-use Rattle.head.specs.Named.{namedArchitecture, guardsBy}
-use Rattle.list_form.specs.At.{entryHere, entryPast, entriesHere, entriesPast, setHere}
-use Rattle.list_form.proofs.Laws.{entry-past, entry-further, entry-inside}
-use Rattle.list_form.proofs.Agree.{read-agrees}
+use Rattle.set_view.specs.Names.{guardsBy, namedArchitecture}
+use Rattle.set_view.specs.Parts.{conditionHere, conditionsHere, entriesHere, entriesPast, entryHere, entryPast, parts, rulesHere, rulesPast, setHere}
+use Rattle.set_view.proofs.Agree.{read-agrees}
+use Rattle.set_view.proofs.Walk.{entry-further, entry-inside, entry-past}
 
 -- ---- an argument
 
@@ -49,43 +47,43 @@ module _ (c : Call) (s : List ℕ) where
   -- ---- conditions
 
   pub all-stop : (n at : ℕ) → (n ≡ 0 → ⊥) → holds c (conditionHere s at) ≡ false → allHold c (conditionsHere s n at) ≡ false
-  unfolding conditionsHere allHold
+  unfolding parts allHold
   all-stop zero at h e = absurd (h refl)
   all-stop (suc n) at h e = rw e
 
   pub all-turn : (n at : ℕ) → (n ≡ 0 → ⊥) → holds c (conditionHere s at) ≡ true
       → allHold c (conditionsHere s n at) ≡ allHold c (conditionsHere s (n - 1) (at + 24))
-  unfolding conditionsHere allHold
+  unfolding parts allHold
   all-turn zero at h e = absurd (h refl)
   all-turn (suc n) at h e = rw (e, less n)
 
   pub all-end : (n at : ℕ) → n ≡ 0 → allHold c (conditionsHere s n at) ≡ true
-  unfolding conditionsHere allHold
+  unfolding parts allHold
   all-end n at e = rw e
 
   -- ---- rules
 
   pub any-stop : (n at : ℕ) → (n ≡ 0 → ⊥) → allHold c (conditionsHere s (numberAt 4 s at) (at + 4)) ≡ true → anyHolds c (rulesHere s n at) ≡ true
-  unfolding rulesHere anyHolds
+  unfolding parts anyHolds
   any-stop zero at h e = absurd (h refl)
   any-stop (suc n) at h e = rw e
 
   pub any-turn : (n at : ℕ) → (n ≡ 0 → ⊥) → allHold c (conditionsHere s (numberAt 4 s at) (at + 4)) ≡ false
       → anyHolds c (rulesHere s n at) ≡ anyHolds c (rulesHere s (n - 1) (at + 4 + 24 * numberAt 4 s at))
-  unfolding rulesHere anyHolds
+  unfolding parts anyHolds
   any-turn zero at h e = absurd (h refl)
   any-turn (suc n) at h e = rw (e, less n)
 
   pub any-end : (n at : ℕ) → n ≡ 0 → anyHolds c (rulesHere s n at) ≡ false
-  unfolding rulesHere anyHolds
+  unfolding parts anyHolds
   any-end n at e = rw e
 
   pub matches-none : (n at : ℕ) → n ≡ 0 → matches c (rulesHere s n at) ≡ true
-  unfolding rulesHere matches
+  unfolding parts matches
   matches-none n at e = rw e
 
   pub matches-some : (n at : ℕ) → (n ≡ 0 → ⊥) → matches c (rulesHere s n at) ≡ anyHolds c (rulesHere s n at)
-  unfolding rulesHere matches
+  unfolding parts matches
   matches-some zero at h = absurd (h refl)
   matches-some (suc n) at h = refl
 
@@ -93,18 +91,18 @@ module _ (c : Call) (s : List ℕ) where
 
   pub listed-stop : (m d n at : ℕ) (t : Bool) → (n ≡ 0 → ⊥) → c .number ≡ numberAt 4 s at
       → matches c (rulesHere s (numberAt 4 s (at + 4)) (at + 8)) ≡ t → listed c m d (entriesHere s n at) ≡ cond t m d
-  unfolding entriesHere entryHere listed
+  unfolding parts entryHere listed
   listed-stop m d zero at t h e f = absurd (h refl)
   listed-stop m d (suc n) at t h e f = rw (eq-eqb (c .number) (numberAt 4 s at) e, f)
 
   pub listed-turn : (m d n at : ℕ) → (n ≡ 0 → ⊥) → (c .number ≡ numberAt 4 s at → ⊥)
       → listed c m d (entriesHere s n at) ≡ listed c m d (entriesHere s (n - 1) (entryPast s at))
-  unfolding entriesHere entryHere listed
+  unfolding parts entryHere listed
   listed-turn m d zero at h e = absurd (h refl)
   listed-turn m d (suc n) at h e = rw (ne-eqb (c .number) (numberAt 4 s at) e, less n)
 
   pub listed-end : (m d n at : ℕ) → n ≡ 0 → listed c m d (entriesHere s n at) ≡ d
-  unfolding entriesHere listed
+  unfolding parts listed
   listed-end m d n at e = rw e
 
   -- ---- the whole

@@ -8,16 +8,20 @@ ghost use Rattle.definitions.specs.Word.{numberAt};
 ghost use Rattle.definitions.specs.Machine.{callOf};
 ghost use Rattle.definitions.specs.RuleSet as defined;
 ghost use Rattle.definitions.specs.Outcome as outcomes;
-ghost use Rattle.head.specs.Named.{guardsBy};
-ghost use Rattle.rule.specs.At.{conditionsHere, rulesHere, rulesPast};
-ghost use Rattle.list_form.specs.At.{entriesHere, entriesPast, setHere};
-use condition::condition_here;
+ghost use Rattle.set_view.specs.Names.{guardsBy};
+ghost use Rattle.set_view.specs.Parts.{conditionsHere, entriesHere, entriesPast, rulesHere, rulesPast, setHere};
 use definitions::Condition;
 use definitions::Operator;
 use definitions::Outcome;
 use definitions::Width;
+use set_view::condition_here;
 
 const KILL_PROCESS: u32 = 0x80000000;
+
+// The bit that the numbers of the second table have, and the number of a call that was cancelled, which is of no table.
+const SECOND_TABLE: u32 = 0x40000000;
+
+const CANCELLED: u32 = 0xffffffff;
 
 // What of a number is looked at.
 fn cut(width: Width, x: u64) -> u64
@@ -98,7 +102,7 @@ fn any_holds(call: &[u8], s: &[u8], n: u32, from: usize) -> bool
         if all_hold(call, s, conditions, at + 4) {
             return true;
         }
-        at = rule::rule_past(at, conditions);
+        at = set_view::rule_past(at, conditions);
         left = left - 1;
     }
     false
@@ -114,21 +118,6 @@ fn matches(call: &[u8], s: &[u8], n: u32, from: usize) -> bool
         return true;
     }
     any_holds(call, s, n, from)
-}
-
-// Where n rules end.
-fn rules_past(s: &[u8], n: u32, from: usize) -> usize
-    requires { ⌜ (rulesPast (now s) n from ≤ length (now s)) × (length (now s) ≤ 1048576) ⌝ }
-    ensures { λ r. ⌜ r ≡ rulesPast (now (s .entry)) n from ⌝ }
-{
-    let mut at = from;
-    let mut left = n;
-    while left != 0 {
-        let conditions = bpf::u32_at(s, at);
-        at = rule::rule_past(at, conditions);
-        left = left - 1;
-    }
-    at
 }
 
 // What n entries say. Match action m, mismatch action d.
@@ -148,18 +137,29 @@ fn listed(call: &[u8], s: &[u8], n: u32, from: usize, m: u32, d: u32) -> u32
             }
             return d;
         }
-        at = rules_past(s, rules, at + 8);
+        at = set_view::rules_past(s, rules, at + 8);
         left = left - 1;
     }
     d
+}
+
+// Whether a call's number is of the second table.
+fn in_second_table(n: u32) -> bool
+    ensures { λ r. ⌜ r ≡ defined.inSecondTable n ⌝ }
+{
+    let bit = n & SECOND_TABLE;
+    if bit == 0 {
+        return false;
+    }
+    n != CANCELLED
 }
 
 // Whether a number is of a second table that is not served.
 fn kills(a: u32, number: u32) -> bool
     ensures { λ r. ⌜ r ≡ (guardsBy a && defined.inSecondTable number) ⌝ }
 {
-    if head::guards(a) {
-        return head::in_second_table(number);
+    if set_view::guards(a) {
+        return in_second_table(number);
     }
     false
 }
@@ -171,7 +171,7 @@ fn meaning(s: &[u8], call: &[u8]) -> u32
     ensures { λ r. ⌜ r ≡ defined.meaning (setHere (now (s .entry))) (callOf (now (call .entry))) ⌝ }
 {
     let a = bpf::u32_at(s, 0);
-    if bpf::u32_at(call, 4) != head::architecture_word(a) {
+    if bpf::u32_at(call, 4) != set_view::architecture_word(a) {
         return KILL_PROCESS;
     }
     if kills(a, bpf::u32_at(call, 0)) {

@@ -15,7 +15,7 @@ use Rattle.definitions.specs.Format.{unflagged, architectureOf}
 use Rattle.definitions.specs.Emitted.{load, ifEqual, return, guard, numberCode, headCode}
 use Rattle.bpf.specs.Place.{place}
 use Rattle.bpf.proofs.Laws.{put-first, puts-append}
-use Rattle.head.specs.Named.{namedArchitecture}
+use Rattle.set_view.specs.Names.{namedArchitecture}
 
 -- the test of the architecture
 abbrev pub tested : Architecture → List Instruction
@@ -50,16 +50,3 @@ pub put-guarded : (l : List ℕ) (a : Architecture) → 56 ≤ length l
     → place (place (place l 0 (filterBytes (tested a))) 24 (instructionBytes (load 0))) 32 (filterBytes guard)
     ≡ place l 0 (filterBytes (tested a ++ (load 0 ∷ []) ++ guard))
 put-guarded l a h = rw (put-load l a (omega arith)) (puts-append l 0 32 (tested a ++ (load 0 ∷ [])) guard refl (omega arith))
-
--- ---- what a set's first number says
-
-architecture-by : (a b c : Bool) (w : Architecture) → cond a (some x86-64) (cond b (some aarch64) (cond c (some riscv64) none)) ≡ some w
-    → w ≡ cond a x86-64 (cond b aarch64 riscv64)
-architecture-by true b c w h = cc
-architecture-by false true c w h = cc
-architecture-by false false true w h = cc
-architecture-by false false false w h = cc
-
-pub architecture-agrees : (n : ℕ) (w : Architecture) → architectureOf n ≡ some w → w ≡ namedArchitecture n
-unfolding architectureOf namedArchitecture
-architecture-agrees n w h = architecture-by (eqb (unflagged n) 1) (eqb (unflagged n) 2) (eqb (unflagged n) 3) w h

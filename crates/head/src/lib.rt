@@ -11,14 +11,11 @@ ghost use Rattle.definitions.specs.Emitted.{guard, headCode};
 ghost use Rattle.definitions.specs.Format as format;
 ghost use Rattle.definitions.specs.Format.{architectureOf, isThere};
 ghost use Rattle.bpf.specs.Place.{place};
-ghost use Rattle.head.specs.Named.{namedArchitecture, guardsBy};
+ghost use Rattle.set_view.specs.Names.{guardsBy, namedArchitecture};
 use bpf::give;
 use bpf::if_any_bit;
 use bpf::if_equal;
 use bpf::load;
-
-// What is added to an architecture's number where only native numbers are served.
-const NATIVE_FLAG: u32 = 256;
 
 // The bit that the numbers of the second table have, and the number of a call that was cancelled, which is of no table.
 const SECOND_TABLE: u32 = 0x40000000;
@@ -27,69 +24,11 @@ const CANCELLED: u32 = 0xffffffff;
 
 const KILL_PROCESS: u32 = 0x80000000;
 
-// A number without the flag.
-fn unflagged(a: u32) -> u32
-    ensures { λ r. ⌜ r ≡ format.unflagged a ⌝ }
-{
-    if a < NATIVE_FLAG {
-        return a;
-    }
-    a - NATIVE_FLAG
-}
-
-// Whether a number stands for an architecture, with the flag or without.
-pub fn architecture_known(a: u32) -> bool
-    ensures { λ r. ⌜ r ≡ isThere (architectureOf a) ⌝ }
-{
-    let plain = unflagged(a);
-    if plain == 1 {
-        return true;
-    }
-    if plain == 2 {
-        return true;
-    }
-    plain == 3
-}
-
-pub fn architecture_word(a: u32) -> u32
-    ensures { λ r. ⌜ r ≡ architectureWord (namedArchitecture a) ⌝ }
-{
-    let plain = unflagged(a);
-    if plain == 1 {
-        return 0xc000003e;
-    }
-    if plain == 2 {
-        return 0xc00000b7;
-    }
-    0xc00000f3
-}
-
-// Whether there is a second table, and it is not served: x86_64 with the flag.
-pub fn guards(a: u32) -> bool
-    ensures { λ r. ⌜ r ≡ guardsBy a ⌝ }
-{
-    if a < NATIVE_FLAG {
-        return false;
-    }
-    a - NATIVE_FLAG == 1
-}
-
-// Whether a call's number is of the second table.
-pub fn in_second_table(n: u32) -> bool
-    ensures { λ r. ⌜ r ≡ inSecondTable n ⌝ }
-{
-    let bit = n & SECOND_TABLE;
-    if bit == 0 {
-        return false;
-    }
-    n != CANCELLED
-}
-
 // How many instructions stand in front of n entries.
 pub fn head_length(a: u32, n: u32) -> usize
     ensures { λ r. ⌜ (r ≡ length (headCode (namedArchitecture a) (guardsBy a) n)) × (r ≤ 7) ⌝ }
 {
-    if guards(a) {
+    if set_view::guards(a) {
         return 7;
     }
     if n == 0 {
@@ -105,7 +44,7 @@ fn put_architecture(out: &mut [u8], a: u32)
         (filterBytes (emitted.load 4 ∷ emitted.ifEqual (architectureWord (namedArchitecture a)) 1 0 ∷ emitted.return killProcess ∷ [])) ⌝ }
 {
     bpf::put(out, 0, load(4));
-    bpf::put(out, 8, if_equal(architecture_word(a), 1, 0));
+    bpf::put(out, 8, if_equal(set_view::architecture_word(a), 1, 0));
     bpf::put(out, 16, give(KILL_PROCESS));
 }
 
@@ -127,7 +66,7 @@ pub fn put_head(out: &mut [u8], a: u32, n: u32) -> usize
         × (r ≡ 8 * length (headCode (namedArchitecture a) (guardsBy a) n)) ⌝ }
 {
     put_architecture(out, a);
-    if guards(a) {
+    if set_view::guards(a) {
         bpf::put(out, 24, load(0));
         put_guard(out);
         return 56;

@@ -21,12 +21,9 @@ use Rattle.theorems.proofs.Names.{operator-there}
 use Rattle.theorems.proofs.Lengths.{length-step}
 use Rattle.theorems.proofs.Tests.{check-some, then-some, some-same, both-true}
 use Rattle.bpf.proofs.Laws.{number-suc}
-use Rattle.head.specs.Named.{guardsBy}
-use Rattle.head.proofs.Laws.{architecture-agrees}
-use Rattle.condition.specs.Here.{conditionHere}
-use Rattle.condition.proofs.Agree.{condition-agrees}
-use Rattle.rule.specs.At.{conditionsHere, rulesHere}
-use Rattle.rule.proofs.Agree.{conditions-agree, rules-agree}
+use Rattle.set_view.specs.Names.{guardsBy}
+use Rattle.set_view.specs.Parts.{conditionHere, conditionsHere, parts, rulesHere}
+use Rattle.set_view.proofs.Agree.{architecture-agrees, condition-agrees, conditions-agree, rules-agree}
 use Rattle.judge.specs.declared.Scan.{Scan}
 use Rattle.judge.specs.declared.Turn.{Turn}
 use Rattle.judge.specs.Scan.{conditionTaken, notThere, Scanned, conditionsScan, ruleScan, ruleFrom, rulesScan, bodyOr, entryScan, entryFrom, ascendingFrom, entriesScan, plainThere, turnFrom, headTaken, setScan, setFrom}
@@ -86,7 +83,7 @@ there-not (some a) h = cc
 condition-value : (s : List ℕ) (at : ℕ) → isThere (conditionAt s at) ≡ true → conditionAt s at ≡ some (record { value = conditionHere s at; past = at + 24 })
 condition-value s at h =
     let w = there-value (conditionAt s at) h in
-    let a = condition-agrees s at (w .1) in
+    let a = condition-agrees s at (w .0) (w .1) in
     rw (w .1, ← a .0, ← a .1)
 
 pub condition-room : (s : List ℕ) (at : ℕ) → isThere (conditionAt s at) ≡ true → at + 24 ≤ length s
@@ -141,7 +138,7 @@ conditions-end s n at c d i w e = rw (e, add-zero c, and-true i, and-true w)
 -- ---- a rule
 
 filled-here : (s : List ℕ) (n at : ℕ) → hasConditions (conditionsHere s n at) ≡ not (eqb n 0)
-unfolding conditionsHere
+unfolding parts
 filled-here s zero at = refl
 filled-here s (suc n) at = rw (ne-eqb (suc n) 0 (omega arith))
 
@@ -212,7 +209,7 @@ rules-end s n at c f i w e = rw (e, add-zero c, and-true f, and-true i, and-true
 -- ---- an entry
 
 body-here : (s : List ℕ) (n at : ℕ) → bodyLength (rulesHere s n at) ≡ bodyOr n (sum ruleLength (rulesHere s n at))
-unfolding rulesHere bodyLength
+unfolding parts bodyLength
 body-here s zero at = refl
 body-here s (suc n) at = rw (ne-eqb (suc n) 0 (omega arith))
 

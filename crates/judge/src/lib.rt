@@ -10,9 +10,9 @@ ghost use Rattle.definitions.specs.RuleSet.{isAction};
 ghost use Rattle.definitions.specs.Answer.{fitsWidth};
 ghost use Rattle.definitions.specs.Format.{widthOf, isThere, times, conditionAt, ruleAt, entryAt, read};
 ghost use Rattle.judge.specs.Scan.{notThere, Scanned, conditionsScan, ruleScan, rulesScan, bodyOr, entryScan, plainThere, Turned, entriesScan, headTaken, setScan, refusalFrom, judged};
-use condition::condition_here;
 use definitions::Condition;
 use definitions::Width;
+use set_view::condition_here;
 
 // What a walk over a part found: whether it is of the format, the place behind it, how many instructions it has, whether all its rules
 // have conditions, all its indices are at most 5, all its values and masks are seen whole, and all its numbers ascend.
@@ -406,7 +406,7 @@ fn head_there(s: &[u8]) -> bool
     requires { ⌜ 16 ≤ length (now s) ⌝ }
     ensures { λ r. ⌜ r ≡ headTaken (now (s .entry)) ⌝ }
 {
-    if !head::architecture_known(bpf::u32_at(s, 0)) {
+    if !set_view::architecture_known(bpf::u32_at(s, 0)) {
         return false;
     }
     if !is_action(bpf::u32_at(s, 4)) {

@@ -16,10 +16,9 @@ use Rattle.definitions.specs.Emitted.{jumpBy, ifEqual, return, rulesCode, bodyC
 use Rattle.theorems.proofs.Tests.{both-true}
 use Rattle.bpf.specs.Place.{place}
 use Rattle.bpf.proofs.Laws.{put-first, put-next, puts-append}
-use Rattle.head.specs.Named.{namedArchitecture, guardsBy}
-use Rattle.rule.specs.At.{rulesHere, rulesPast}
-use Rattle.rule.proofs.Laws.{past-none, past-further}
-use Rattle.list_form.specs.At.{entryHere, entryPast, entriesHere, entriesPast, plainHere, setHere}
+use Rattle.set_view.specs.Names.{guardsBy, namedArchitecture}
+use Rattle.set_view.specs.Parts.{behind, entriesHere, entriesPast, entryHere, entryPast, parts, plainHere, rulesHere, rulesPast, setHere}
+use Rattle.set_view.proofs.Walk.{parts-many, behind-none, rules-further}
 
 -- ---- an instruction, a run of them, and an instruction
 
@@ -37,11 +36,11 @@ unfolding bodyCode
 body-always m = refl
 
 pub body-none : (s : List ℕ) (n at m : ℕ) → n ≡ 0 → bodyCode m (rulesHere s n at) ≡ bodyCode m []
-unfolding rulesHere
+unfolding parts
 body-none s n at m e = rw e
 
 pub body-some : (s : List ℕ) (n at m : ℕ) → (n ≡ 0 → ⊥) → bodyCode m (rulesHere s n at) ≡ rulesCode m (rulesHere s n at)
-unfolding bodyCode rulesHere
+unfolding bodyCode parts
 body-some s zero at m h = absurd (h refl)
 body-some s (suc n) at m h = refl
 
@@ -56,49 +55,19 @@ pub entry-length : (s : List ℕ) (at m d : ℕ)
     → length (entryCode m d (entryHere s at)) ≡ 2 + length (bodyCode m (rulesHere s (numberAt 4 s (at + 4)) (at + 8)))
 entry-length s at m d = rw (entry-is s at m d) (simp length-append (omega arith))
 
-pub entry-past : (s : List ℕ) (at : ℕ) → entryPast s at ≡ rulesPast s (numberAt 4 s (at + 4)) (at + 8)
-unfolding entryPast
-entry-past s at = refl
-
-pub entry-further : (s : List ℕ) (at : ℕ) → at + 8 ≤ entryPast s at
-entry-further s at = rw (entry-past s at) (past-further s (numberAt 4 s (at + 4)) (at + 8))
-
 -- ---- entries, from the bytes
 
 pub entries-more : (s : List ℕ) (n at m d : ℕ) → (n ≡ 0 → ⊥)
     → entriesCode m d (entriesHere s n at) ≡ entryCode m d (entryHere s at) ++ entriesCode m d (entriesHere s (n - 1) (entryPast s at))
-unfolding entriesCode entriesHere
+unfolding entriesCode parts
 entries-more s zero at m d h = absurd (h refl)
 entries-more s (suc n) at m d h = let e : suc n - 1 ≡ n = omega arith in rw e
 
 pub entries-none : (s : List ℕ) (n at m d : ℕ) → n ≡ 0 → entriesCode m d (entriesHere s n at) ≡ []
-unfolding entriesCode entriesHere
+unfolding entriesCode parts
 entries-none s n at m d e = rw e
 
-pub entries-past-more : (s : List ℕ) (n at : ℕ) → (n ≡ 0 → ⊥) → entriesPast s n at ≡ entriesPast s (n - 1) (entryPast s at)
-unfolding entriesPast
-entries-past-more s zero at h = absurd (h refl)
-entries-past-more s (suc n) at h = let e : suc n - 1 ≡ n = omega arith in rw e
-
-pub entries-further : (s : List ℕ) (n at : ℕ) → at ≤ entriesPast s n at
-unfolding entriesPast
-entries-further s zero at = omega arith
-entries-further s (suc n) at = omega (arith, entry-further s at, entries-further s n (entryPast s at))
-
--- where all that is left ends in the bytes, the next entry does
-pub entry-inside : (s : List ℕ) (n at past : ℕ) → (n ≡ 0 → ⊥) → entriesPast s n at ≡ past → past ≤ length s → entryPast s at ≤ length s
-entry-inside s n at past h e i = omega (arith, entries-past-more s n at h, entries-further s (n - 1) (entryPast s at))
-
 -- ---- entries without rules
-
-pub plain-is : (s : List ℕ) (n at : ℕ) → plainHere s n at ≡ true → (n ≡ 0 → ⊥) × (numberAt 4 s (at + 4) ≡ 0)
-unfolding plainHere
-plain-is s n at h =
-    let p = both-true (not (eqb n 0)) (eqb (numberAt 4 s (at + 4)) 0) h in
-    (λ e. let z : _≡_ {A = ℕ} 0 1 = cc (eq-eqb n 0 e, p .0) in omega arith, eqb-true _ _ (p .1))
-
-pub plain-past : (s : List ℕ) (at : ℕ) → numberAt 4 s (at + 4) ≡ 0 → entryPast s at ≡ at + 8
-plain-past s at e = rw (entry-past s at) (past-none s (numberAt 4 s (at + 4)) (at + 8) e)
 
 pub plain-code : (s : List ℕ) (at m d : ℕ) → numberAt 4 s (at + 4) ≡ 0
     → entryCode m d (entryHere s at) ≡ ifEqual (numberAt 4 s at) 0 1 ∷ (bodyCode m [] ++ (return d ∷ []))
@@ -107,20 +76,7 @@ plain-code s at m d e = rw (entry-is s at m d, body-none s (numberAt 4 s (at + 4
 pub plain-length : (s : List ℕ) (at m d : ℕ) → numberAt 4 s (at + 4) ≡ 0 → length (entryCode m d (entryHere s at)) ≡ 5
 plain-length s at m d e = rw (plain-code s at m d e, body-always m)
 
--- where the walk over such entries ends elsewhere than it began, it has passed one
-pub plain-passed : (s : List ℕ) (n from run at : ℕ) → plainHere s n from ≡ true → plainHere s (n - run) at ≡ false → at ≡ from + 8 * run → 0 < run
-plain-passed s n from zero at h stop e =
-    let a : at ≡ from = omega arith in
-    let l : n - 0 ≡ n = omega arith in
-    absurd (let z : _≡_ {A = ℕ} 0 1 = cc in omega arith)
-plain-passed s n from (suc run) at h stop e = omega arith
-
 -- ---- the whole filter
-
-pub entries-many : (s : List ℕ) (n at : ℕ) → length (entriesHere s n at) ≡ n
-unfolding entriesHere
-entries-many s zero at = refl
-entries-many s (suc n) at = ap suc (entries-many s n (entryPast s at))
 
 -- the head of the set that is here, and its entries
 abbrev pub headHere : List ℕ → List Instruction
@@ -132,7 +88,7 @@ codeHere s = entriesCode (numberAt 4 s 8) (numberAt 4 s 4) (entriesHere s (numbe
 -- code behind the head of the set that is here
 pub headed-is : (s : List ℕ) (p : List Instruction) → headed (setHere s) p ≡ headHere s ++ p
 unfolding setHere guarded guardsBy
-headed-is s p = rw (entries-many s (numberAt 4 s 12) 16)
+headed-is s p = rw (parts-many (entryHere s) (entryPast s) (numberAt 4 s 12) 16)
 
 pub filter-is : (s : List ℕ) → emitted (setHere s) ≡ headHere s ++ (codeHere s ++ (return (numberAt 4 s 4) ∷ []))
 unfolding emitted numbersCode setHere

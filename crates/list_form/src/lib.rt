@@ -10,8 +10,7 @@ ghost use Rattle.definitions.specs.Machine.{filterBytes};
 ghost use Rattle.definitions.specs.Emitted as emitted;
 ghost use Rattle.definitions.specs.Emitted.{bodyCode, entryCode, entriesCode};
 ghost use Rattle.bpf.specs.Place.{place, Writing};
-ghost use Rattle.rule.specs.At.{rulesHere, rulesPast};
-ghost use Rattle.list_form.specs.At.{entryHere, entryPast, entriesHere, entriesPast, plainHere, setHere};
+ghost use Rattle.set_view.specs.Parts.{entriesHere, entriesPast, entryHere, entryPast, plainHere, rulesHere, rulesPast, setHere};
 use bpf::give;
 use bpf::if_equal;
 use bpf::jump_by;
@@ -76,18 +75,6 @@ fn put_listed(out: &mut [u8], s: &[u8], from: usize, at: usize, m: u32, d: u32)
     bpf::put(out, at + 32, give(d));
 }
 
-// Whether an entry is left, and it has no rules.
-pub fn plain_here(s: &[u8], left: u32, at: usize) -> bool
-    requires { ⌜ (entriesPast (now s) left at ≤ length (now s)) × (length (now s) ≤ 1048576) ⌝ }
-    ensures { λ r. ⌜ r ≡ plainHere (now (s .entry)) left at ⌝ }
-{
-    if left == 0 {
-        return false;
-    }
-    let rules = bpf::u32_at(s, at + 4);
-    rules == 0
-}
-
 // Writes the first of n entries, as many as have no rules, and answers how many. They are most of most sets, so they have a loop of
 // their own, which carries little. Match action m, mismatch action d.
 fn put_plain(out: &mut [u8], s: &[u8], n: u32, from: usize, at: usize, m: u32, d: u32) -> u32
@@ -100,7 +87,7 @@ fn put_plain(out: &mut [u8], s: &[u8], n: u32, from: usize, at: usize, m: u32, d
     let mut run: u32 = 0;
     let mut past = from;
     let mut end = at;
-    while plain_here(s, n - run, past) {
+    while set_view::plain_here(s, n - run, past) {
         put_listed(out, s, past, end, m, d);
         past = past + 8;
         end = end + 40;
@@ -124,7 +111,7 @@ fn put_turn(out: &mut [u8], s: &[u8], n: u32, from: usize, at: usize, m: u32, d:
         (now (out .exit)) (r .end) (entriesCode m d (entriesHere (now (s .entry)) (r .left) (r .past)))
         × (entriesPast (now (s .entry)) (r .left) (r .past) ≡ entriesPast (now (s .entry)) n from) × (r .left < n) ⌝ }
 {
-    if plain_here(s, n, from) {
+    if set_view::plain_here(s, n, from) {
         let run = put_plain(out, s, n, from, at, m, d);
         let many = run as usize;
         return Turn {

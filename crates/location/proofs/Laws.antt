@@ -12,12 +12,9 @@ use Rattle.definitions.specs.Emitted.{rulesCode}
 use Rattle.definitions.specs.Answer.{all, hasConditions, noEntry, firstFailing, faultyRule}
 use Rattle.theorems.specs.Length.{bodyLength}
 use Rattle.theorems.proofs.Lengths.{length-rules}
-use Rattle.condition.specs.Here.{conditionHere}
-use Rattle.rule.specs.At.{conditionsHere, rulesHere, rulesPast}
-use Rattle.rule.proofs.Laws.{past-further}
 use Rattle.judge.specs.Scan.{bodyOr}
-use Rattle.list_form.specs.At.{entryHere, entryPast, entriesHere, entriesPast}
-use Rattle.list_form.proofs.Laws.{entry-past, entry-further, entries-further, entries-many}
+use Rattle.set_view.specs.Parts.{behind, conditionHere, conditionsHere, entriesHere, entriesPast, entryHere, entryPast, parts, rulesHere, rulesPast}
+use Rattle.set_view.proofs.Walk.{entries-further, entry-further, entry-past, parts-many, rules-further}
 use Rattle.location.specs.Walk.{passesBy, toldBy, faultIn, firstBy}
 use Rattle.location.proofs.Firsts.{failing-inside, faulty-is, faulty-there}
 
@@ -35,53 +32,53 @@ module _ (s : List ℕ) where
   -- ---- conditions
 
   pub conditions-more : (n k at : ℕ) → k < n → conditionsHere s (n - k) at ≡ conditionHere s at ∷ conditionsHere s (n - (k + 1)) (at + 24)
-  unfolding conditionsHere
+  unfolding parts
   conditions-more n k at h = let e : n - k ≡ suc (n - (k + 1)) = omega arith in rw e
 
   pub conditions-none : (n k at : ℕ) → n ≤ k → conditionsHere s (n - k) at ≡ []
-  unfolding conditionsHere
+  unfolding parts
   conditions-none n k at h = let e : n - k ≡ 0 = omega arith in rw e
 
   pub conditions-many : (n at : ℕ) → length (conditionsHere s n at) ≡ n
-  unfolding conditionsHere
+  unfolding parts
   conditions-many zero at = refl
   conditions-many (suc n) at = ap suc (conditions-many n (at + 24))
 
   pub conditions-some : (n at : ℕ) → hasConditions (conditionsHere s n at) ≡ not (eqb n 0)
-  unfolding conditionsHere
+  unfolding parts
   conditions-some zero at = refl
   conditions-some (suc n) at = rw (eqb·suc-zero n)
 
   -- ---- rules
 
   pub rules-more : (n k at : ℕ) → k < n → rulesHere s (n - k) at ≡ conditionsHere s (numberAt 4 s at) (at + 4) ∷ rulesHere s (n - (k + 1)) (at + 4 + 24 * numberAt 4 s at)
-  unfolding rulesHere
+  unfolding parts
   rules-more n k at h = let e : n - k ≡ suc (n - (k + 1)) = omega arith in rw e
 
   pub rules-none : (n k at : ℕ) → n ≤ k → rulesHere s (n - k) at ≡ []
-  unfolding rulesHere
+  unfolding parts
   rules-none n k at h = let e : n - k ≡ 0 = omega arith in rw e
 
   pub rules-many : (n at : ℕ) → length (rulesHere s n at) ≡ n
-  unfolding rulesHere
+  unfolding parts
   rules-many zero at = refl
   rules-many (suc n) at = ap suc (rules-many n (at + 4 + 24 * numberAt 4 s at))
 
   rule-at : (n at k : ℕ) → k < n
       → getD (rulesHere s n at) k [] ≡ conditionsHere s (numberAt 4 s (rulesPast s k at)) (rulesPast s k at + 4)
-  unfolding rulesHere rulesPast
+  unfolding parts behind
   rule-at zero at k h = absurd (omega arith)
   rule-at (suc n) at zero h = refl
   rule-at (suc n) at (suc k) h = rule-at n (at + 4 + 24 * numberAt 4 s at) k (omega arith)
 
   pub rule-within : (n at k : ℕ) → k < n → rulesPast s k at + 4 + 24 * numberAt 4 s (rulesPast s k at) ≤ rulesPast s n at
-  unfolding rulesPast
+  unfolding behind
   rule-within zero at k h = absurd (omega arith)
-  rule-within (suc n) at zero h = past-further s n (at + 4 + 24 * numberAt 4 s at)
+  rule-within (suc n) at zero h = rules-further s n (at + 4 + 24 * numberAt 4 s at)
   rule-within (suc n) at (suc k) h = rule-within n (at + 4 + 24 * numberAt 4 s at) k (omega arith)
 
   rule-last : (k from : ℕ) → rulesPast s (suc k) from ≡ rulesPast s k from + 4 + 24 * numberAt 4 s (rulesPast s k from)
-  unfolding rulesPast
+  unfolding behind
   rule-last zero from = refl
   rule-last (suc k) from = rule-last k (from + 4 + 24 * numberAt 4 s from)
 
@@ -95,7 +92,7 @@ module _ (s : List ℕ) where
   rules-inside at h = (omega (arith, entry-further s at), rw (← entry-past s at) h)
 
   pub body-long : (n from k : ℕ) → ((m : ℕ) → length (rulesCode m (rulesHere s n from)) ≡ k) → bodyOr n k ≡ bodyLength (rulesHere s n from)
-  unfolding rulesHere bodyLength
+  unfolding parts bodyLength
   body-long zero from k e = refl
   body-long (suc n) from k e = rw (eqb·suc-zero n) (sym (e 0) ∙ length-rules 0 (rulesHere s (suc n) from))
 
@@ -113,27 +110,27 @@ module _ (s : List ℕ) where
   -- ---- entries
 
   pub entries-more : (n k at : ℕ) → k < n → entriesHere s (n - k) at ≡ entryHere s at ∷ entriesHere s (n - (k + 1)) (entryPast s at)
-  unfolding entriesHere
+  unfolding parts
   entries-more n k at h = let e : n - k ≡ suc (n - (k + 1)) = omega arith in rw e
 
   pub entries-none : (n k at : ℕ) → n ≤ k → entriesHere s (n - k) at ≡ []
-  unfolding entriesHere
+  unfolding parts
   entries-none n k at h = let e : n - k ≡ 0 = omega arith in rw e
 
   entry-at : (n at k : ℕ) → k < n → getD (entriesHere s n at) k noEntry ≡ entryHere s (entriesPast s k at)
-  unfolding entriesHere entriesPast
+  unfolding parts behind
   entry-at zero at k h = absurd (omega arith)
   entry-at (suc n) at zero h = refl
   entry-at (suc n) at (suc k) h = entry-at n (entryPast s at) k (omega arith)
 
   pub entry-within : (n at k : ℕ) → k < n → entryPast s (entriesPast s k at) ≤ entriesPast s n at
-  unfolding entriesPast
+  unfolding behind
   entry-within zero at k h = absurd (omega arith)
   entry-within (suc n) at zero h = entries-further s n (entryPast s at)
   entry-within (suc n) at (suc k) h = entry-within n (entryPast s at) k (omega arith)
 
   entry-last : (k from : ℕ) → entriesPast s (suc k) from ≡ entryPast s (entriesPast s k from)
-  unfolding entriesPast
+  unfolding behind
   entry-last zero from = refl
   entry-last (suc k) from = entry-last k (entryPast s from)
 
@@ -147,6 +144,6 @@ module _ (s : List ℕ) where
       × (faultyRule (passesBy code) (toldBy code) (entriesHere s n 16) ≡ faultIn code index (entryHere s (entriesPast s index 16)))
   entry-found code n index six two e h =
       let es = entriesHere s n 16 in
-      let w = faulty-there code es index six two e (λ q. h (q ∙ entries-many s n 16)) in
-      let i : index < n = omega (arith, w .0, entries-many s n 16) in
+      let w = faulty-there code es index six two e (λ q. h (q ∙ parts-many (entryHere s) (entryPast s) n 16)) in
+      let i : index < n = omega (arith, w .0, parts-many (entryHere s) (entryPast s) n 16) in
       rw (← entry-at n 16 index i) (entry-within n 16 index i, w .1, faulty-is code es index six two e)

@@ -7,12 +7,11 @@ ghost use lib.ListN.{length};
 ghost use Rattle.definitions.specs.Word.{numberAt};
 ghost use Rattle.definitions.specs.Answer as defined;
 ghost use Rattle.definitions.specs.Answer.{all, firstFailing, faultyRule, tooLong, faultOf};
-ghost use Rattle.rule.specs.At.{conditionsHere, rulesHere, rulesPast};
-ghost use Rattle.list_form.specs.At.{entryHere, entryPast, entriesHere, entriesPast, setHere};
+ghost use Rattle.set_view.specs.Parts.{conditionsHere, entriesHere, entriesPast, entryHere, entryPast, rulesHere, rulesPast, setHere};
 ghost use Rattle.location.specs.Walk.{takenBy, passesBy, toldBy, faultIn, entryBy, carriedBy, firstBy};
-use condition::condition_here;
 use definitions::Condition;
 use definitions::Fault;
+use set_view::condition_here;
 
 // What stands for a number that does not apply.
 const NOWHERE: u32 = 0xffffffff;
@@ -78,7 +77,7 @@ fn first_rule(s: &[u8], n: u32, from: usize, code: u32) -> u32
         if !passes(s, conditions, at + 4, code) {
             return rule;
         }
-        at = rule::rule_past(at, conditions);
+        at = set_view::rule_past(at, conditions);
         rule = rule + 1;
     }
     n

@@ -55,7 +55,7 @@ fn no_head() -> Head
 pub fn head_good(architecture: u32, mismatch: u32, on_match: u32) -> bool
     ensures { λ r. ⌜ r ≡ headGood architecture mismatch «on_match» ⌝ }
 {
-    if !head::architecture_known(architecture) {
+    if !set_view::architecture_known(architecture) {
         return false;
     }
     if !judge::is_action(mismatch) {

@@ -15,8 +15,7 @@ use Rattle.definitions.specs.RuleSet.{Rule}
 use Rattle.definitions.specs.Emitted.{jumpBy, return, conditionCode, reach, helpers, near, stepCode, stepDistance, conditionsCode, distance, ruleCode, rulesCode}
 use Rattle.bpf.specs.Place.{place, placeBefore, Writing}
 use Rattle.bpf.proofs.Laws.{length-place, place-nil, length-filterBytes, put-first, put-2, puts-before, before-is, WritingBefore}
-use Rattle.condition.specs.Here.{conditionHere}
-use Rattle.rule.specs.At.{conditionsHere, rulesHere, rulesPast}
+use Rattle.set_view.specs.Parts.{behind, conditionHere, conditionsHere, parts, rulesHere, rulesPast}
 
 -- ---- helper jumps, and the distance behind them
 
@@ -66,12 +65,12 @@ step-length q d = rw (step-is q d, length-append)
 pub code-more : (s : List ℕ) (n at d : ℕ) → (n ≡ 0 → ⊥)
     → conditionsCode (conditionsHere s n at) d
     ≡ conditionsCode (conditionsHere s (n - 1) (at + 24)) (stepDistance (conditionHere s at) d) ++ stepCode (conditionHere s at) d
-unfolding conditionsHere conditionsCode
+unfolding parts conditionsCode
 code-more s zero at d h = absurd (h refl)
 code-more s (suc n) at d h = let e : suc n - 1 ≡ n = omega arith in rw e
 
 pub code-none : (s : List ℕ) (n at d : ℕ) → n ≡ 0 → conditionsCode (conditionsHere s n at) d ≡ []
-unfolding conditionsHere conditionsCode
+unfolding parts conditionsCode
 code-none s n at d e = rw e
 
 pub code-length : (s : List ℕ) (n at d : ℕ) → (n ≡ 0 → ⊥)
@@ -85,12 +84,12 @@ step-room s n at d h w = omega (arith, w .room, code-length s n at d h)
 
 pub distance-more : (s : List ℕ) (n at d : ℕ) → (n ≡ 0 → ⊥)
     → distance (conditionsHere s n at) d ≡ distance (conditionsHere s (n - 1) (at + 24)) (stepDistance (conditionHere s at) d)
-unfolding conditionsHere distance
+unfolding parts distance
 distance-more s zero at d h = absurd (h refl)
 distance-more s (suc n) at d h = let e : suc n - 1 ≡ n = omega arith in rw e
 
 pub distance-none : (s : List ℕ) (n at d : ℕ) → n ≡ 0 → distance (conditionsHere s n at) d ≡ d
-unfolding conditionsHere distance
+unfolding parts distance
 distance-none s n at d e = rw e
 
 -- ---- a rule
@@ -124,7 +123,7 @@ rule-put l at last m qs room e =
 pub rules-more : (s : List ℕ) (n at m : ℕ) → (n ≡ 0 → ⊥)
     → rulesCode m (rulesHere s n at)
     ≡ ruleCode m (conditionsHere s (numberAt 4 s at) (at + 4)) ++ rulesCode m (rulesHere s (n - 1) (at + 4 + 24 * numberAt 4 s at))
-unfolding rulesHere rulesCode
+unfolding parts rulesCode
 rules-more s zero at m h = absurd (h refl)
 rules-more s (suc n) at m h = let e : suc n - 1 ≡ n = omega arith in rw e
 
@@ -139,25 +138,5 @@ pub rule-room : (s : List ℕ) (n at m : ℕ) {out₀ : List ℕ} {start : ℕ} 
 rule-room s n at m h w fits = omega (arith, w .spot, w .long, rules-are-long s n at m h)
 
 pub rules-none : (s : List ℕ) (n at m : ℕ) → n ≡ 0 → rulesCode m (rulesHere s n at) ≡ []
-unfolding rulesHere rulesCode
+unfolding parts rulesCode
 rules-none s n at m e = rw e
-
-pub past-more : (s : List ℕ) (n at : ℕ) → (n ≡ 0 → ⊥) → rulesPast s n at ≡ rulesPast s (n - 1) (at + 4 + 24 * numberAt 4 s at)
-unfolding rulesPast
-past-more s zero at h = absurd (h refl)
-past-more s (suc n) at h = let e : suc n - 1 ≡ n = omega arith in rw e
-
-pub past-none : (s : List ℕ) (n at : ℕ) → n ≡ 0 → rulesPast s n at ≡ at
-unfolding rulesPast
-past-none s n at e = rw e
-
-pub past-further : (s : List ℕ) (n at : ℕ) → at ≤ rulesPast s n at
-unfolding rulesPast
-past-further s zero at = omega arith
-past-further s (suc n) at = omega (arith, past-further s n (at + 4 + 24 * numberAt 4 s at))
-
--- where all that is left ends in the bytes, the next rule does
-pub rule-inside : (s : List ℕ) (n at past : ℕ) → (n ≡ 0 → ⊥) → rulesPast s n at ≡ past → past ≤ length s
-    → at + 4 + 24 * numberAt 4 s at ≤ length s
-rule-inside s n at past h e i =
-    omega (arith, past-more s n at h, past-further s (n - 1) (at + 4 + 24 * numberAt 4 s at))

@@ -8,11 +8,11 @@ ghost use Rattle.definitions.specs.Machine.{filterBytes};
 ghost use Rattle.definitions.specs.Emitted as emitted;
 ghost use Rattle.definitions.specs.Emitted.{helpers, stepCode, stepDistance, conditionsCode, distance, ruleCode, rulesCode};
 ghost use Rattle.bpf.specs.Place.{place, placeBefore, PutBefore};
-ghost use Rattle.rule.specs.At.{conditionsHere, rulesHere, rulesPast};
+ghost use Rattle.set_view.specs.Parts.{conditionsHere, rulesHere, rulesPast};
 use bpf::jump_by;
 use bpf::wide;
-use condition::condition_here;
 use definitions::Condition;
+use set_view::condition_here;
 
 // How many bytes a condition has.
 const CONDITION_SIZE: usize = 24;
@@ -150,14 +150,6 @@ fn put_rule(out: &mut [u8], s: &[u8], n: u32, from: usize, at: usize, m: u32) ->
     last + 8
 }
 
-// Where the conditions of a rule end, the rule standing at a place with its number of conditions.
-pub fn rule_past(at: usize, n: u32) -> usize
-    requires { ⌜ at + 4 + 24 * n ≤ 1048576 ⌝ }
-    ensures { λ r. ⌜ r ≡ at + 4 + 24 * n ⌝ }
-{
-    at + 4 + CONDITION_SIZE * (n as usize)
-}
-
 // How many instructions rules have, and the place behind them in the rule set.
 pub struct Length {
     pub count: usize,
@@ -175,7 +167,7 @@ pub fn rules_length(s: &[u8], n: u32, from: usize) -> Length
     while left != 0 {
         let conditions = bpf::u32_at(s, past);
         count = count + rule_length(s, conditions, past + 4);
-        past = rule_past(past, conditions);
+        past = set_view::rule_past(past, conditions);
         left = left - 1;
     }
     Length {
@@ -204,7 +196,7 @@ pub fn put_rules(out: &mut [u8], s: &[u8], n: u32, from: usize, at: usize, m: u3
     while left != 0 {
         let conditions = bpf::u32_at(s, past);
         end = put_rule(out, s, conditions, past + 4, end, m);
-        past = rule_past(past, conditions);
+        past = set_view::rule_past(past, conditions);
         left = left - 1;
     }
     Written {

@@ -12,13 +12,12 @@ use Rattle.definitions.specs.RuleSet.{Rule}
 use Rattle.definitions.specs.Emitted.{return, conditionsCode, ruleCode, rulesCode}
 use Rattle.bpf.specs.Place.{place, placeBefore, Writing}
 use Rattle.bpf.proofs.Laws.{put-first, puts-before, before-is}
-use Rattle.rule.specs.At.{conditionsHere, rulesHere}
 use Rattle.rule.proofs.Laws.{rule-is-long}
-use Rattle.list_form.specs.At.{entryHere, entryPast, entriesHere, entriesPast}
-use Rattle.list_form.proofs.Laws.{entry-further, entry-inside}
 use Rattle.search_form.specs.Search.{bodies}
 use Rattle.definitions.specs.Emitted.{ruleBody, ruleBodies, entryBody}
 use Rattle.search_form.proofs.Shorter.{rules-shorter}
+use Rattle.set_view.specs.Parts.{behind, conditionsHere, entriesHere, entriesPast, entryHere, entryPast, parts, rulesHere}
+use Rattle.set_view.proofs.Walk.{entry-further, entry-inside}
 
 -- ---- a rule: the return, and the conditions in front of it
 
@@ -43,28 +42,28 @@ rule-body-put l at last m qs e h =
 pub rule-bodies-more : (s : List ℕ) (n at m : ℕ) → (n ≡ 0 → ⊥)
     → ruleBodies m (rulesHere s n at)
     ≡ ruleBody m (conditionsHere s (numberAt 4 s at) (at + 4)) ++ ruleBodies m (rulesHere s (n - 1) (at + 4 + 24 * numberAt 4 s at))
-unfolding rulesHere ruleBodies
+unfolding parts ruleBodies
 rule-bodies-more s zero at m h = absurd (h refl)
 rule-bodies-more s (suc n) at m h = let e : suc n - 1 ≡ n = omega arith in rw e
 
 pub rule-bodies-none : (s : List ℕ) (n at m : ℕ) → n ≡ 0 → ruleBodies m (rulesHere s n at) ≡ []
-unfolding rulesHere ruleBodies
+unfolding parts ruleBodies
 rule-bodies-none s n at m e = rw e
 
 -- ---- an entry
 
 pub entry-body-none : (s : List ℕ) (n at m d : ℕ) → n ≡ 0 → entryBody m d (rulesHere s n at) ≡ []
-unfolding rulesHere entryBody
+unfolding parts entryBody
 entry-body-none s n at m d e = rw e
 
 pub entry-body-some : (s : List ℕ) (n at m d : ℕ) → (n ≡ 0 → ⊥)
     → entryBody m d (rulesHere s n at) ≡ ruleBodies m (rulesHere s n at) ++ (return d ∷ [])
-unfolding rulesHere entryBody
+unfolding parts entryBody
 entry-body-some s zero at m d h = absurd (h refl)
 entry-body-some s (suc n) at m d h = refl
 
 rules-many : (s : List ℕ) (n at : ℕ) → length (rulesHere s n at) ≡ n
-unfolding rulesHere
+unfolding parts
 rules-many s zero at = refl
 rules-many s (suc n) at = ap suc (rules-many s n (at + 4 + 24 * numberAt 4 s at))
 
@@ -83,12 +82,12 @@ entry-room s n at past h e i = omega (arith, entry-inside s n at past h e i, ent
 
 -- entries have eight bytes at least
 pub entries-eight : (s : List ℕ) (n at : ℕ) → at + 8 * n ≤ entriesPast s n at
-unfolding entriesPast
+unfolding behind
 entries-eight s zero at = omega arith
 entries-eight s (suc n) at = omega (arith, entry-further s at, entries-eight s n (entryPast s at))
 
 pub entries-here : (s : List ℕ) (n at : ℕ) → (n ≡ 0 → ⊥) → entriesHere s n at ≡ entryHere s at ∷ entriesHere s (n - 1) (entryPast s at)
-unfolding entriesHere
+unfolding parts
 entries-here s zero at h = absurd (h refl)
 entries-here s (suc n) at h = let e : suc n - 1 ≡ n = omega arith in rw e
 
@@ -99,7 +98,7 @@ unfolding bodies entryHere
 bodies-more s n at m d h = rw (entries-here s n at h)
 
 pub bodies-last : (s : List ℕ) (n at m d : ℕ) → n ≡ 0 → bodies m d (entriesHere s n at) ≡ return d ∷ []
-unfolding bodies entriesHere
+unfolding bodies parts
 bodies-last s n at m d e = rw e
 
 pub bodies-long : (s : List ℕ) (n at m d : ℕ) → (n ≡ 0 → ⊥)
@@ -109,7 +108,7 @@ bodies-long s n at m d h = rw (bodies-more s n at m d h, length-append)
 
 -- the code of the rules is never empty: a return stands behind it
 pub bodies-there : (s : List ℕ) (n at m d : ℕ) → 1 ≤ length (bodies m d (entriesHere s n at))
-unfolding bodies entriesHere
+unfolding bodies parts
 bodies-there s zero at m d = omega arith
 bodies-there s (suc n) at m d = rw length-append (omega (arith, bodies-there s n (entryPast s at) m d))
 

@@ -3,8 +3,8 @@ use Prim.Native.Nat.{ℕ}
 use mathlib.Core.List.{List}
 use Rattle.definitions.specs.declared.Instruction.{Instruction}
 use Rattle.definitions.specs.Word.{numberAt}
-use Rattle.list_form.specs.At.{entriesHere}
 use Rattle.search_form.specs.Search.{bodies}
+use Rattle.set_view.specs.Parts.{entriesHere}
 
 -- n entries from a place, in the set's own actions
 abbrev pub bodiesHere : List ℕ → ℕ → ℕ → List Instruction

@@ -5,10 +5,9 @@ ghost use Prim.Native.Nat.{ℕ, _+_, _*_, _≤_};
 ghost use lib.ListN.{length};
 ghost use Rattle.definitions.specs.Machine.{filterBytes};
 ghost use Rattle.bpf.specs.Place.{place};
-ghost use Rattle.rule.specs.At.{conditionsHere, rulesHere, rulesPast};
-ghost use Rattle.list_form.specs.At.{entriesHere, entriesPast};
 ghost use Rattle.search_form.specs.Search.{bodies};
 ghost use Rattle.definitions.specs.Emitted.{ruleBody, ruleBodies, entryBody};
+ghost use Rattle.set_view.specs.Parts.{conditionsHere, entriesHere, entriesPast, rulesHere, rulesPast};
 ghost use Rattle.search_bodies.specs.Here.{bodiesHere};
 use rule::Length;
 use rule::Written;
@@ -79,7 +78,7 @@ fn put_rule_bodies(out: &mut [u8], s: &[u8], n: u32, from: usize, at: usize, m: 
     while left != 0 {
         let conditions = bpf::u32_at(s, past);
         end = put_rule_body(out, s, conditions, past + 4, end, m);
-        past = rule::rule_past(past, conditions);
+        past = set_view::rule_past(past, conditions);
         left = left - 1;
     }
     Written {

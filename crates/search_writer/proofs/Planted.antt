@@ -11,13 +11,13 @@ use Rattle.definitions.specs.Word.{numberAt}
 use Rattle.definitions.specs.Machine.{filterBytes}
 use Rattle.bpf.specs.Place.{place, placeBefore}
 use Rattle.bpf.proofs.Laws.{puts-before, before-is}
-use Rattle.list_form.specs.At.{entriesHere, setHere}
 use Rattle.list_form.proofs.Laws.{headHere, headed-is}
 use Rattle.search_form.specs.Search.{jumpReach, blockReach, bodies, toMismatch, toMatch, toRules, Tree, leaf, node, block, grow, Form, plantLeaf, openBlock, plant, ground, tree, planted, searchForm}
 use Rattle.search_form.proofs.Sizes.{place-adds, return-adds, compare-size}
 use Rattle.search_form.proofs.Shorter.{planted-none}
 use Rattle.search_bodies.specs.Here.{bodiesHere}
 use Rattle.spans.specs.Spans.{spansHere}
+use Rattle.set_view.specs.Parts.{entriesHere, parts, setHere}
 use Rattle.search_writer.specs.declared.Marks.{Marks}
 use Rattle.search_writer.specs.Forms.{plantedHere, Ends, Makes}
 
@@ -52,7 +52,7 @@ planted-longer s n = plant-longer (numberAt 4 s 8) (numberAt 4 s 4) _ (ground (n
 
 -- with nothing listed, the code of the rules is all
 pub planted-bodies : (s : List ℕ) (n : ℕ) → n ≡ 0 → plantedHere s n ≡ bodiesHere s n 16
-unfolding entriesHere bodies
+unfolding parts bodies
 planted-bodies s n e = rw e (planted-none (numberAt 4 s 8) (numberAt 4 s 4))
 
 -- ---- the whole filter

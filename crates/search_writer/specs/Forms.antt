@@ -9,8 +9,8 @@ use Rattle.definitions.specs.declared.Instruction.{Instruction}
 use Rattle.definitions.specs.Word.{numberAt}
 use Rattle.definitions.specs.Machine.{filterBytes}
 use Rattle.bpf.specs.Place.{placeBefore}
-use Rattle.list_form.specs.At.{entriesHere}
 use Rattle.search_form.specs.Search.{Form, Spot, nearReturn, openBlock, Comparison, equal, atLeast, above, planted}
+use Rattle.set_view.specs.Parts.{entriesHere}
 use Rattle.search_writer.specs.declared.Marks.{Marks}
 use Rattle.search_writer.specs.declared.Reached.{Reached}
 

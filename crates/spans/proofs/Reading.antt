@@ -10,13 +10,12 @@ use lib.ListN.{length, take, drop}
 use Rattle.definitions.specs.Word.{numberAt}
 use Rattle.definitions.specs.RuleSet.{Entry}
 use Rattle.theorems.proofs.Tests.{both-true}
-use Rattle.rule.specs.At.{rulesHere}
-use Rattle.list_form.specs.At.{entryHere, entryPast, entriesHere, entriesPast, plainHere}
-use Rattle.list_form.proofs.Laws.{entries-past-more, entries-further, plain-is, plain-past}
 use Rattle.search_form.specs.Search.{bodies, toMatch, toRules, Span, isMatch, alone, plainSpans, entrySpans, spans, lowest, singles}
 use Rattle.search_form.proofs.Spans.{spans-some}
 use Rattle.search_bodies.specs.Here.{bodiesHere}
 use Rattle.search_bodies.proofs.Laws.{entries-here, bodies-long, bodies-there, entry-body-none}
+use Rattle.set_view.specs.Parts.{entriesHere, entriesPast, entryHere, entryPast, parts, plainHere, rulesHere}
+use Rattle.set_view.proofs.Walk.{behind-more, entries-further, plain-is, plain-past}
 use Rattle.spans.specs.declared.Cursor.{Cursor}
 use Rattle.spans.specs.declared.Run.{Run}
 use Rattle.spans.specs.Spans.{spansHere, spansFrom, destination, Stands, Passes, Gathers, IsNext}
@@ -84,12 +83,12 @@ and-false false = refl
 -- the first of the entries has no rules, or has some; es are the others
 plain-spans : (s : List ℕ) (at m d : ℕ) (es : List Entry) → numberAt 4 s (at + 4) ≡ 0
     → spans m d (entryHere s at ∷ es) ≡ plainSpans (numberAt 4 s at) (spans m d es)
-unfolding spans entrySpans entryHere rulesHere
+unfolding spans entrySpans entryHere parts
 plain-spans s at m d es e = rw e
 
 ruled-spans : (s : List ℕ) (at m d : ℕ) (es : List Entry) → (numberAt 4 s (at + 4) ≡ 0 → ⊥)
     → spans m d (entryHere s at ∷ es) ≡ alone (numberAt 4 s at) (toRules (length (bodies m d (entryHere s at ∷ es)))) ∷ spans m d es
-unfolding spans entrySpans entryHere rulesHere
+unfolding spans entrySpans entryHere parts
 ruled-spans s at m d es e = go (numberAt 4 s (at + 4)) e
   where
     all : ℕ
@@ -108,7 +107,7 @@ spans-ruled : (s : List ℕ) (n at : ℕ) → (n ≡ 0 → ⊥) → (numberAt 4 
 spans-ruled s n at h e = rw (entries-here s n at h) (ruled-spans s at _ _ _ e)
 
 pub spans-none : (s : List ℕ) (n at : ℕ) → n ≡ 0 → spansHere s n at ≡ []
-unfolding spans entriesHere
+unfolding spans parts
 spans-none s n at e = rw e
 
 -- the number of the first entry is that of the first span
@@ -150,7 +149,7 @@ follows-is s n at last e =
     let p = plain-is s n at (t .0) in
     let k = eqb-true (numberAt 4 s at) (last + 1) (t .1) in
     let q = plain-past s at (p .1) in
-    let x = entries-past-more s n at (p .0) in
+    let x = behind-more (entryPast s) n at (p .0) in
     let b = bodies-long s n at (numberAt 4 s 8) (numberAt 4 s 4) (p .0) in
     record {
       some = p .0;

@@ -4,9 +4,9 @@ use mathlib.Core.List.{List, _∷_}
 use Prim.Native.Nat.{ℕ, zero, suc, _≤_, _<_}
 use lib.ListN.{length}
 use Rattle.definitions.specs.Word.{numberAt}
-use Rattle.list_form.specs.At.{entryHere, entriesHere, entriesPast}
 use Rattle.search_form.specs.Search.{Destination, toMatch, toRules, Span, plainSpans, spans}
 use Rattle.search_bodies.specs.Here.{bodiesHere}
+use Rattle.set_view.specs.Parts.{entriesHere, entriesPast, entryHere}
 use Rattle.spans.specs.declared.Cursor.{Cursor}
 use Rattle.spans.specs.declared.Run.{Run}
 

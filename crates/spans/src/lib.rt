@@ -6,8 +6,8 @@ ghost use Prim.Native.Nat.{_+_, _≤_};
 ghost use lib.Dec.{eqb};
 ghost use lib.ListN.{length, take, drop};
 ghost use Rattle.definitions.specs.Word.{numberAt};
-ghost use Rattle.list_form.specs.At.{entriesPast, plainHere};
 ghost use Rattle.search_form.specs.Search.{singles, few};
+ghost use Rattle.set_view.specs.Parts.{entriesPast, plainHere};
 ghost use Rattle.spans.specs.Spans.{spansFrom, Stands, Passes, Gathers, IsNext};
 
 // How many single numbers are compared one after the other at most.
@@ -48,7 +48,7 @@ fn follows(s: &[u8], left: u32, at: usize, last: u32) -> bool
     requires { ⌜ (entriesPast (now s) left at ≤ length (now s)) × (length (now s) ≤ 1048576) ⌝ }
     ensures { λ r. ⌜ r ≡ (plainHere (now (s .entry)) left at && eqb (numberAt 4 (now (s .entry)) at) (last + 1)) ⌝ }
 {
-    if list_form::plain_here(s, left, at) {
+    if set_view::plain_here(s, left, at) {
         let number = bpf::u32_at(s, at);
         return (number as usize) == (last as usize) + 1;
     }

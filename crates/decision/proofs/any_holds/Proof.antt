@@ -4,8 +4,8 @@ use native.Mathlib.Omega.{arith}
 use denote.Ref.{now}
 use Rattle.definitions.specs.Machine.{callOf}
 use Rattle.definitions.specs.RuleSet.{anyHolds}
-use Rattle.rule.specs.At.{rulesHere, rulesPast}
-use Rattle.rule.proofs.Laws.{past-more, rule-inside}
+use Rattle.set_view.specs.Parts.{rulePast, rulesHere, rulesPast}
+use Rattle.set_view.proofs.Walk.{behind-more, rule-inside}
 use Rattle.decision.proofs.Laws.{any-stop, any-turn, any-end}
 use Rattle.decision.proofs.any_holds.Statement.{statement}
 use Rattle.decision.proofs.any_holds.Tie as tie
@@ -56,7 +56,7 @@ loop-again c =
     let failed = rw (c .before .before .before .u32-at .ensures) at (sym (c .before .before .all-hold .ensures) ∙ c .before .if1 .left) in
     let e = rw (c .before .before .before .u32-at .ensures) at (c .rule-past .ensures) in (
       rw e (sym (any-turn _ _ (c .before .before .before .before .before .loop .left) (c .before .before .before .before .before .loop .at) (c .before .before .before .before .loop-test .taken) failed) ∙ c .before .before .before .before .before .loop .inv .0),
-      rw e (sym (past-more (now (c .before .before .before .before .before .before .before .before .args .s)) (c .before .before .before .before .before .loop .left) (c .before .before .before .before .before .loop .at) (c .before .before .before .before .loop-test .taken)) ∙ c .before .before .before .before .before .loop .inv .1),
+      rw e (sym (behind-more (rulePast (now (c .before .before .before .before .before .before .before .before .args .s))) (c .before .before .before .before .before .loop .left) (c .before .before .before .before .before .loop .at) (c .before .before .before .before .loop-test .taken)) ∙ c .before .before .before .before .before .loop .inv .1),
     )
 
 returns-2 : tie.Need-returns-2 Inv-loop μ-loop

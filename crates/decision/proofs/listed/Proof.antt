@@ -6,8 +6,8 @@ use denote.Ref.{now}
 use Rattle.definitions.specs.Word.{numberAt}
 use Rattle.definitions.specs.Machine.{callOf}
 use Rattle.definitions.specs.RuleSet as defined
-use Rattle.list_form.specs.At.{entriesHere, entriesPast}
-use Rattle.list_form.proofs.Laws.{entry-past, entries-past-more}
+use Rattle.set_view.specs.Parts.{entriesHere, entriesPast, entryPast}
+use Rattle.set_view.proofs.Walk.{behind-more, entry-past}
 use Rattle.decision.proofs.Laws.{entry-fits, listed-stop, listed-turn, listed-end}
 use Rattle.decision.proofs.listed.Statement.{statement}
 use Rattle.decision.proofs.listed.Tie as tie
@@ -85,7 +85,7 @@ loop-again c =
     λ q. c .before .if1 .left (c .before .before .before .before .before .before .u32-at .ensures ∙ q ∙ sym (c .before .before .u32-at3 .ensures)) in
     let e = rw (c .before .before .before .u32-at2 .ensures) at (c .rules-past .ensures) ∙ sym (entry-past (now (c .before .before .before .before .before .before .before .before .before .args .s)) (c .before .before .before .before .before .loop .at)) in (
       rw e (sym (listed-turn _ _ (c .before .before .before .before .before .before .before .before .before .args .m) (c .before .before .before .before .before .before .before .before .before .args .d) (c .before .before .before .before .before .loop .left) (c .before .before .before .before .before .loop .at) (c .before .before .before .before .loop-test .taken) other) ∙ c .before .before .before .before .before .loop .inv .0),
-      rw e (sym (entries-past-more (now (c .before .before .before .before .before .before .before .before .before .args .s)) (c .before .before .before .before .before .loop .left) (c .before .before .before .before .before .loop .at) (c .before .before .before .before .loop-test .taken)) ∙ c .before .before .before .before .before .loop .inv .1),
+      rw e (sym (behind-more (entryPast (now (c .before .before .before .before .before .before .before .before .before .args .s))) (c .before .before .before .before .before .loop .left) (c .before .before .before .before .before .loop .at) (c .before .before .before .before .loop-test .taken)) ∙ c .before .before .before .before .before .loop .inv .1),
     )
 
 returns-3 : tie.Need-returns-3 Inv-loop μ-loop

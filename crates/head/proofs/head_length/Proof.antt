@@ -2,7 +2,7 @@
 use mathlib.Core.Path.{sym, _∙_}
 use native.Mathlib.Omega.{arith}
 use borrow.Author.Needs.{needs}
-use Rattle.head.specs.Named.{namedArchitecture, guardsBy}
+use Rattle.set_view.specs.Names.{guardsBy, namedArchitecture}
 use Rattle.head.proofs.Laws.{head-guarded, head-none, head-some}
 use Rattle.head.proofs.head_length.Statement.{statement}
 use Rattle.head.proofs.head_length.Tie as tie

@@ -5,7 +5,7 @@ use mathlib.Core.List.{List}
 use native.Mathlib.Omega.{arith}
 use lib.ListN.{length}
 use Rattle.definitions.specs.declared.Instruction.{Instruction}
-use Rattle.head.specs.Named.{namedArchitecture, guardsBy}
+use Rattle.set_view.specs.Names.{guardsBy, namedArchitecture}
 use Rattle.head.proofs.Laws.{head-guarded, head-none, head-some, head-least, put-load, put-guarded}
 use Rattle.head.proofs.put_head.Statement.{statement}
 use Rattle.head.proofs.put_head.Tie as tie

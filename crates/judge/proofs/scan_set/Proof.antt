@@ -5,7 +5,7 @@ use borrow.Author.Tests.{le-leb, lt-leb, eq-eqb, ne-eqb, not-true, not-false}
 use denote.Ref.{now}
 use Prim.Native.Nat.{ℕ}
 use Rattle.theorems.proofs.Heads.{length-head}
-use Rattle.head.specs.Named.{namedArchitecture, guardsBy}
+use Rattle.set_view.specs.Names.{guardsBy, namedArchitecture}
 use Rattle.judge.specs.declared.Scan.{Scan}
 use Rattle.judge.specs.Scan.{setFrom}
 use Rattle.judge.proofs.Laws.{set-from}

@@ -4,7 +4,8 @@ use mathlib.Core.Path.{ap, sym, _∙_}
 use native.Mathlib.Omega.{arith}
 use lib.ListN.{length}
 use denote.Ref.{now}
-use Rattle.rule.proofs.Laws.{past-none}
+use Rattle.set_view.proofs.Walk.{behind-none}
+use Rattle.set_view.specs.Parts.{rulePast}
 use Rattle.list_form.proofs.Laws.{body-always, body-none, body-some}
 use Rattle.list_form.proofs.put_body.Statement.{statement}
 use Rattle.list_form.proofs.put_body.Tie as tie
@@ -29,7 +30,7 @@ returns c =
     let n = ap length (e ∙ body-always (a .m)) in (
       rw e (c .before .before .put-always .ensures),
       omega arith,
-      sym (past-none (now (a .s)) (a .n) (a .from) (c .before .before .before .before .if1 .taken)),
+      sym (behind-none (rulePast (now (a .s))) (a .n) (a .from) (c .before .before .before .before .if1 .taken)),
     )
 
 put-rules-requires : tie.Need-put-rules-requires

@@ -6,7 +6,7 @@ use denote.Ref.{now}
 use Rattle.definitions.specs.Emitted.{entriesCode}
 use Rattle.bpf.specs.Place.{Writing}
 use Rattle.bpf.proofs.Laws.{write-begin, write-on, write-end}
-use Rattle.list_form.specs.At.{entriesHere, entriesPast}
+use Rattle.set_view.specs.Parts.{entriesHere, entriesPast}
 use Rattle.list_form.proofs.Laws.{entries-none}
 use Rattle.list_form.proofs.put_entries.Statement.{statement}
 use Rattle.list_form.proofs.put_entries.Tie as tie

@@ -5,8 +5,9 @@ use native.Mathlib.Omega.{arith}
 use denote.Ref.{now}
 use Rattle.definitions.specs.Word.{numberAt}
 use Rattle.definitions.specs.Emitted.{bodyCode}
-use Rattle.rule.specs.At.{rulesHere}
-use Rattle.list_form.proofs.Laws.{put-around, entry-is, entry-length, entry-past, entry-further}
+use Rattle.set_view.specs.Parts.{rulesHere}
+use Rattle.set_view.proofs.Walk.{entry-further, entry-past}
+use Rattle.list_form.proofs.Laws.{put-around, entry-is, entry-length}
 use Rattle.list_form.proofs.put_entry.Statement.{statement}
 use Rattle.list_form.proofs.put_entry.Tie as tie
 

@@ -7,8 +7,9 @@ use denote.Ref.{now}
 use Rattle.definitions.specs.Emitted.{entryCode, entriesCode}
 use Rattle.bpf.specs.Place.{Writing}
 use Rattle.bpf.proofs.Laws.{write-begin, write-turn, write-room}
-use Rattle.list_form.specs.At.{entryHere, entriesHere, entriesPast}
-use Rattle.list_form.proofs.Laws.{entry-inside, entries-more, entries-past-more, entries-further, plain-is, plain-past, plain-length, plain-passed}
+use Rattle.set_view.specs.Parts.{entriesHere, entriesPast, entryHere, entryPast}
+use Rattle.set_view.proofs.Walk.{behind-more, entries-further, entry-inside, plain-is, plain-passed, plain-past}
+use Rattle.list_form.proofs.Laws.{entries-more, plain-length}
 use Rattle.list_form.proofs.put_plain.Statement.{statement}
 use Rattle.list_form.proofs.put_plain.Tie as tie
 
@@ -97,7 +98,7 @@ loop-again c =
     let more = entries-more s left past (a .m) (a .d) (p .0) in (
       rw (← e, ← q) (write-turn _ _ _ _ _ _ (entryCode (a .m) (a .d) (entryHere s past)) _ _ _ (c .before .before .before .before .before .before .before .before .before .pre .1) (c .before .before .before .before .before .before .loop .inv .0) more
           (c .before .before .put-listed .ensures) (omega arith) (c .before .before .put-listed .kept .0)),
-      rw (← e, ← q) (sym (entries-past-more s left past (p .0)) ∙ c .before .before .before .before .before .before .loop .inv .1),
+      rw (← e, ← q) (sym (behind-more (entryPast s) left past (p .0)) ∙ c .before .before .before .before .before .before .loop .inv .1),
       omega (arith, c .before .before .before .before .before .before .loop .inv),
       omega (arith, c .before .before .before .before .before .before .loop .inv),
       omega (arith, p .0, c .before .before .before .before .before .before .loop .inv .4),

@@ -5,8 +5,9 @@ use native.Mathlib.Omega.{arith}
 use denote.Ref.{now}
 use Rattle.definitions.specs.Emitted.{entryCode}
 use Rattle.bpf.proofs.Laws.{write-begin, write-turn, write-room}
-use Rattle.list_form.specs.At.{entryHere}
-use Rattle.list_form.proofs.Laws.{entry-inside, entries-more, entries-past-more}
+use Rattle.set_view.specs.Parts.{entryHere, entryPast}
+use Rattle.set_view.proofs.Walk.{behind-more, entry-inside}
+use Rattle.list_form.proofs.Laws.{entries-more}
 use Rattle.list_form.proofs.put_turn.Statement.{statement}
 use Rattle.list_form.proofs.put_turn.Tie as tie
 
@@ -64,7 +65,7 @@ returns-2 c =
     let more = entries-more s (a .n) (a .from) (a .m) (a .d) some in (
       rw e (write-turn _ _ _ _ _ _ (entryCode (a .m) (a .d) (entryHere s (a .from))) _ _ _ (c .before .before .before .before .before .before .before .before .pre .1) (write-begin _ _ _) more
           (c .before .before .put-entry .ensures .0) (c .before .before .put-entry .ensures .1) (c .before .before .put-entry .kept .0)),
-      rw e (sym (entries-past-more s (a .n) (a .from) some)),
+      rw e (sym (behind-more (entryPast s) (a .n) (a .from) some)),
       omega (arith, some),
     )
 

@@ -6,7 +6,7 @@ use borrow.Author.Tests.{not-true, not-false}
 use borrow.Author.Needs.{needs}
 use denote.Ref.{now}
 use Rattle.definitions.specs.Answer.{firstFailing}
-use Rattle.rule.specs.At.{conditionsHere}
+use Rattle.set_view.specs.Parts.{conditionsHere}
 use Rattle.location.specs.Walk.{takenBy}
 use Rattle.location.proofs.Firsts.{failing-none, failing-stop, failing-turn}
 use Rattle.location.proofs.Laws.{whole, conditions-more, conditions-none}

@@ -5,7 +5,7 @@ use Prim.Native.Nat.{ℕ, _+_, _-_, _≤_}
 use native.Mathlib.Omega.{arith}
 use borrow.Author.Tests.{not-true, not-false}
 use denote.Ref.{now}
-use Rattle.list_form.specs.At.{entriesHere, entriesPast}
+use Rattle.set_view.specs.Parts.{behind, entriesHere, entriesPast}
 use Rattle.location.specs.Walk.{firstBy}
 use Rattle.location.proofs.Firsts.{walk-none, walk-stop, walk-turn}
 use Rattle.location.proofs.Laws.{whole, entries-more, entries-none, entry-next, entry-within}
@@ -21,7 +21,7 @@ abbrev μ-loop : tie.MeasureT-loop
 μ-loop s n code first carried₀ at₀ entry₀ carried at entry = n - entry
 
 loop-holds : tie.Need-loop-holds Inv-loop μ-loop
-unfolding entriesPast
+unfolding behind
 loop-holds c = (omega (arith, ap (λ (k : ℕ). firstBy (c .before .args .code) (c .before .args .first) (entriesHere (now (c .before .args .s)) k 16)) (whole (c .before .args .n))), omega arith, refl, omega (arith, c .before .pre .2))
 
 try-entry-requires : tie.Need-try-entry-requires Inv-loop μ-loop

@@ -8,8 +8,8 @@ use borrow.Author.Tests.{not-true, not-false}
 use denote.Ref.{now}
 use Rattle.definitions.specs.Word.{numberAt}
 use Rattle.definitions.specs.Answer.{firstFailing}
-use Rattle.rule.specs.At.{rulesHere, rulesPast}
-use Rattle.rule.proofs.Laws.{past-none}
+use Rattle.set_view.specs.Parts.{rulePast, rulesHere, rulesPast}
+use Rattle.set_view.proofs.Walk.{behind-none}
 use Rattle.location.specs.Walk.{passesBy}
 use Rattle.location.proofs.Firsts.{failing-none, failing-stop, failing-turn}
 use Rattle.location.proofs.Laws.{whole, rules-more, rules-none, rule-next, rule-within}
@@ -25,7 +25,7 @@ abbrev μ-loop : tie.MeasureT-loop
 μ-loop s n from code at₀ rule₀ at rule = n - rule
 
 loop-holds : tie.Need-loop-holds Inv-loop μ-loop
-loop-holds c = (omega (arith, ap (λ (k : ℕ). firstFailing (passesBy (c .before .args .code)) (rulesHere (now (c .before .args .s)) k (c .before .args .from))) (whole (c .before .args .n))), omega arith, past-none (now (c .before .args .s)) 0 (c .before .args .from) refl)
+loop-holds c = (omega (arith, ap (λ (k : ℕ). firstFailing (passesBy (c .before .args .code)) (rulesHere (now (c .before .args .s)) k (c .before .args .from))) (whole (c .before .args .n))), omega arith, behind-none (rulePast (now (c .before .args .s))) 0 (c .before .args .from) refl)
 
 -- the next rule is inside the bytes
 inside : (c : tie.In-loop Inv-loop μ-loop)

@@ -7,8 +7,7 @@ use lib.ListN.{length, getD}
 use denote.Ref.{now}
 use Rattle.definitions.specs.Word.{numberAt}
 use Rattle.definitions.specs.Answer.{fault}
-use Rattle.rule.specs.At.{conditionsHere, rulesPast}
-use Rattle.list_form.specs.At.{entryHere}
+use Rattle.set_view.specs.Parts.{conditionsHere, entryHere, rulesPast}
 use Rattle.location.specs.Walk.{faultIn}
 use Rattle.location.proofs.Laws.{rules-inside, rule-found}
 use Rattle.location.proofs.in_entry.Statement.{statement}

@@ -4,10 +4,9 @@ use native.Mathlib.Omega.{arith}
 use borrow.Author.Needs.{needs}
 use denote.Ref.{now}
 use Rattle.definitions.specs.Answer.{fault}
-use Rattle.rule.specs.At.{conditionsHere}
-use Rattle.list_form.specs.At.{entriesHere}
+use Rattle.set_view.specs.Parts.{conditionsHere, entriesHere, entryHere, entryPast, parts}
+use Rattle.set_view.proofs.Walk.{parts-many}
 use Rattle.location.proofs.Firsts.{faulty-none}
-use Rattle.list_form.proofs.Laws.{entries-many}
 use Rattle.location.proofs.Laws.{entry-found}
 use Rattle.location.proofs.in_rules.Statement.{statement}
 use Rattle.location.proofs.in_rules.Tie as tie
@@ -19,11 +18,11 @@ told-requires : tie.Need-told-requires
 told-requires c κs = search needs
 
 returns : tie.Need-returns
-unfolding conditionsHere
+unfolding parts
 returns c =
     let s = now (c .before .before .before .before .args .s) in
     let n = c .before .before .before .before .args .n in
-    let none = faulty-none (c .before .before .before .before .args .code) (entriesHere s n 16) n (c .before .before .before .before .pre .2) (c .before .before .before .before .pre .3) (sym (c .before .if1 .taken) ∙ c .before .before .first-entry .ensures .0) (sym (entries-many s n 16)) in
+    let none = faulty-none (c .before .before .before .before .args .code) (entriesHere s n 16) n (c .before .before .before .before .pre .2) (c .before .before .before .before .pre .3) (sym (c .before .if1 .taken) ∙ c .before .before .first-entry .ensures .0) (sym (parts-many (entryHere s) (entryPast s) n 16)) in
     ap (fault n 0) (c .told .ensures) ∙ sym none
 
 in-entry-requires : tie.Need-in-entry-requires

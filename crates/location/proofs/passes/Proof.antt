@@ -2,7 +2,7 @@
 use borrow.Author.Needs.{needs}
 use borrow.Author.Tests.{eq-eqb, ne-eqb}
 use denote.Ref.{now}
-use Rattle.rule.specs.At.{conditionsHere}
+use Rattle.set_view.specs.Parts.{conditionsHere}
 use Rattle.location.specs.Walk.{takenBy, passesBy}
 use Rattle.location.proofs.Firsts.{failing-all}
 use Rattle.location.proofs.Laws.{conditions-many, conditions-some}

@@ -8,7 +8,7 @@ use lib.ListN.{length}
 use denote.Ref.{now}
 use Rattle.definitions.specs.Emitted.{conditionsCode, distance}
 use Rattle.bpf.proofs.Laws.{WritingBefore, put-where, before-begin, before-turn, before-end}
-use Rattle.rule.specs.At.{conditionsHere}
+use Rattle.set_view.specs.Parts.{conditionsHere}
 use Rattle.rule.proofs.Laws.{code-more, code-none, step-room, distance-more, distance-none}
 use Rattle.rule.proofs.put_conditions.Statement.{statement}
 use Rattle.rule.proofs.put_conditions.Tie as tie

@@ -3,7 +3,7 @@
 use borrow.Author.Needs.{needs}
 use native.Mathlib.Omega.{arith}
 use denote.Ref.{now}
-use Rattle.rule.specs.At.{conditionsHere}
+use Rattle.set_view.specs.Parts.{conditionsHere}
 use Rattle.rule.proofs.Laws.{rule-is-long, rule-put}
 use Rattle.rule.proofs.put_rule.Statement.{statement}
 use Rattle.rule.proofs.put_rule.Tie as tie

@@ -8,8 +8,9 @@ use Rattle.definitions.specs.Word.{numberAt}
 use Rattle.definitions.specs.Emitted.{ruleCode, rulesCode}
 use Rattle.bpf.specs.Place.{Writing}
 use Rattle.bpf.proofs.Laws.{write-begin, write-turn, write-end}
-use Rattle.rule.specs.At.{conditionsHere, rulesHere, rulesPast}
-use Rattle.rule.proofs.Laws.{rule-room, rules-more, rules-none, past-more, past-none, rule-inside}
+use Rattle.set_view.specs.Parts.{conditionsHere, rulePast, rulesHere, rulesPast}
+use Rattle.set_view.proofs.Walk.{behind-more, behind-none, rule-inside}
+use Rattle.rule.proofs.Laws.{rule-room, rules-more, rules-none}
 use Rattle.rule.proofs.put_rules.Statement.{statement}
 use Rattle.rule.proofs.put_rules.Tie as tie
 
@@ -61,7 +62,7 @@ loop-again c =
     let more = rules-more s left past (c .before .before .before .before .before .before .before .before .before .before .args .m) (c .before .before .before .before .before .before .loop-test .taken) in (
       rw e (write-turn _ _ _ _ _ _ (ruleCode (c .before .before .before .before .before .before .before .before .before .before .args .m) (conditionsHere s (numberAt 4 s past) (past + 4))) _ _ _ (c .before .before .before .before .before .before .before .before .before .before .pre .1) (c .before .before .before .before .before .before .before .loop .inv .0) more
           (rw k at (c .before .before .before .put-rule .ensures .0)) (rw k at (c .before .before .before .put-rule .ensures .1)) (c .before .before .before .put-rule .kept .0)),
-      rw e (sym (past-more s left past (c .before .before .before .before .before .before .loop-test .taken)) ∙ c .before .before .before .before .before .before .before .loop .inv .1),
+      rw e (sym (behind-more (rulePast s) left past (c .before .before .before .before .before .before .loop-test .taken)) ∙ c .before .before .before .before .before .before .before .loop .inv .1),
     )
 
 same-length : tie.Need-same-length Inv-loop μ-loop
@@ -74,7 +75,7 @@ returns c =
     let past = c .before .loop .past in
     let e = c .loop-test .left in
     let w = write-end _ _ _ _ _ _ (c .before .loop .inv .0) (rules-none s left past (c .before .before .before .before .args .m) e) in
-    (w .0, w .1, sym (past-none s left past e) ∙ c .before .loop .inv .1)
+    (w .0, w .1, sym (behind-none (rulePast s) left past e) ∙ c .before .loop .inv .1)
 
 pub put-rules-spec : {M : Type 1} → statement M
 put-rules-spec =

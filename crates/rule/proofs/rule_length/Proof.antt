@@ -7,7 +7,7 @@ use mathlib.Core.Path.{ap}
 use lib.ListN.{length}
 use denote.Ref.{now}
 use Rattle.definitions.specs.Emitted.{conditionsCode}
-use Rattle.rule.specs.At.{conditionsHere}
+use Rattle.set_view.specs.Parts.{conditionsHere}
 use Rattle.rule.proofs.Laws.{code-length, code-none, rule-is-long}
 use Rattle.rule.proofs.rule_length.Statement.{statement}
 use Rattle.rule.proofs.rule_length.Tie as tie

@@ -6,8 +6,9 @@ use native.Mathlib.Omega.{arith}
 use lib.ListN.{length}
 use denote.Ref.{now}
 use Rattle.definitions.specs.Emitted.{rulesCode}
-use Rattle.rule.specs.At.{rulesHere, rulesPast}
-use Rattle.rule.proofs.Laws.{rules-are-long, rules-none, past-more, past-none, rule-inside}
+use Rattle.set_view.specs.Parts.{rulePast, rulesHere, rulesPast}
+use Rattle.set_view.proofs.Walk.{behind-more, behind-none, rule-inside}
+use Rattle.rule.proofs.Laws.{rules-are-long, rules-none}
 use Rattle.rule.proofs.rules_length.Statement.{statement}
 use Rattle.rule.proofs.rules_length.Tie as tie
 
@@ -63,7 +64,7 @@ loop-again c =
       (λ m.
           let n = rw k at (c .before .rule-length .ensures .0 m) in
           rw e (omega (arith, rules-are-long s left past m (c .before .before .before .loop-test .taken), c .before .before .before .before .loop .inv .0 m))),
-      rw e (sym (past-more s left past (c .before .before .before .loop-test .taken)) ∙ c .before .before .before .before .loop .inv .1),
+      rw e (sym (behind-more (rulePast s) left past (c .before .before .before .loop-test .taken)) ∙ c .before .before .before .before .loop .inv .1),
       omega arith,
     )
 
@@ -74,7 +75,7 @@ returns c =
     let past = c .before .loop .past in
     let e = c .loop-test .left in (
       (λ m. omega (arith, ap length (rules-none s left past m e), c .before .loop .inv .0 m)),
-      sym (past-none s left past e) ∙ c .before .loop .inv .1,
+      sym (behind-none (rulePast s) left past e) ∙ c .before .loop .inv .1,
       omega arith,
     )
 

@@ -8,8 +8,8 @@ use lib.ListN.{length}
 use denote.Ref.{now}
 use Rattle.definitions.specs.declared.Instruction.{Instruction}
 use Rattle.definitions.specs.Word.{numberAt}
-use Rattle.list_form.specs.At.{entriesPast}
-use Rattle.list_form.proofs.Laws.{entry-past, entry-inside, entries-past-more, entries-further}
+use Rattle.set_view.specs.Parts.{entriesPast, entryPast}
+use Rattle.set_view.proofs.Walk.{behind-more, entries-further, entry-inside, entry-past}
 use Rattle.search_bodies.specs.Here.{bodiesHere}
 use Rattle.search_bodies.proofs.Laws.{bodies-last, entry-room, bodies-long}
 use Rattle.search_bodies.proofs.bodies_length.Statement.{statement}
@@ -69,7 +69,7 @@ loop-again c =
     let p = rw (c .before .before .u32-at .ensures, ← entry-past s (c .before .before .before .before .loop .past)) at (c .before .body-length .ensures .1) in
     let b = bodies-long s (c .before .before .before .before .loop .left) (c .before .before .before .before .loop .past) m d (c .before .before .before .loop-test .taken) in (
       rw p (omega (arith, k, b, c .before .before .before .before .loop .inv .0)),
-      rw (p, ← entries-past-more s (c .before .before .before .before .loop .left) (c .before .before .before .before .loop .past) (c .before .before .before .loop-test .taken)) (c .before .before .before .before .loop .inv .1),
+      rw (p, ← behind-more (entryPast s) (c .before .before .before .before .loop .left) (c .before .before .before .before .loop .past) (c .before .before .before .loop-test .taken)) (c .before .before .before .before .loop .inv .1),
       omega (arith, c .before .body-length .ensures .2, c .before .before .before .before .loop .inv .2),
     )
 

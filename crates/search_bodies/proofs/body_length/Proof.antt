@@ -6,9 +6,9 @@ use native.Mathlib.Omega.{arith}
 use borrow.Author.Needs.{needs}
 use lib.ListN.{length}
 use denote.Ref.{now}
-use Rattle.rule.specs.At.{rulesHere}
-use Rattle.rule.proofs.Laws.{past-none}
 use Rattle.definitions.specs.Emitted.{entryBody}
+use Rattle.set_view.specs.Parts.{rulePast, rulesHere}
+use Rattle.set_view.proofs.Walk.{behind-none}
 use Rattle.search_bodies.proofs.Laws.{entry-body-none, entry-body-long}
 use Rattle.search_bodies.proofs.body_length.Statement.{statement}
 use Rattle.search_bodies.proofs.body_length.Tie as tie
@@ -17,7 +17,7 @@ returns : tie.Need-returns
 returns c =
     let a = c .before .before .args in
     let s = now (a .s) in
-    (λ m d. rw (entry-body-none s (a .n) (a .from) m d (c .if1 .taken)), sym (past-none s (a .n) (a .from) (c .if1 .taken)), omega arith)
+    (λ m d. rw (entry-body-none s (a .n) (a .from) m d (c .if1 .taken)), sym (behind-none (rulePast s) (a .n) (a .from) (c .if1 .taken)), omega arith)
 
 rules-length-requires : tie.Need-rules-length-requires
 rules-length-requires c κs = search needs

@@ -7,11 +7,10 @@ use denote.Ref.{now}
 use Rattle.definitions.specs.Word.{numberAt}
 use Rattle.bpf.specs.Place.{Writing}
 use Rattle.bpf.proofs.Laws.{write-begin, write-turn, write-room}
-use Rattle.rule.specs.At.{rulesHere}
-use Rattle.list_form.specs.At.{entriesHere, entriesPast}
-use Rattle.list_form.proofs.Laws.{entry-past, entry-inside, entries-past-more}
 use Rattle.search_form.specs.Search.{bodies}
 use Rattle.definitions.specs.Emitted.{entryBody}
+use Rattle.set_view.specs.Parts.{entriesHere, entriesPast, entryPast, rulesHere}
+use Rattle.set_view.proofs.Walk.{behind-more, entry-inside, entry-past}
 use Rattle.search_bodies.proofs.Laws.{entry-room, bodies-more, bodies-last, write-last}
 use Rattle.search_bodies.proofs.put_bodies.Statement.{statement}
 use Rattle.search_bodies.proofs.put_bodies.Tie as tie
@@ -70,7 +69,7 @@ loop-again c =
     let more = bodies-more s left past (c .before .before .before .before .before .before .before .before .before .args .m) (c .before .before .before .before .before .before .before .before .before .args .d) (c .before .before .before .before .before .loop-test .taken) in (
       rw e (write-turn _ _ _ _ _ _ (entryBody (c .before .before .before .before .before .before .before .before .before .args .m) (c .before .before .before .before .before .before .before .before .before .args .d) (rulesHere s (numberAt 4 s (past + 4)) (past + 8))) _ _ _ (c .before .before .before .before .before .before .before .before .before .pre .1) (c .before .before .before .before .before .before .loop .inv .0) more
           (rw k at (c .before .before .put-entry-body .ensures .0)) (rw k at (c .before .before .put-entry-body .ensures .1)) (c .before .before .put-entry-body .kept .0)),
-      rw e (sym (entries-past-more s left past (c .before .before .before .before .before .loop-test .taken)) ∙ c .before .before .before .before .before .before .loop .inv .1),
+      rw e (sym (behind-more (entryPast s) left past (c .before .before .before .before .before .loop-test .taken)) ∙ c .before .before .before .before .before .before .loop .inv .1),
     )
 
 give-requires : tie.Need-give-requires Inv-loop μ-loop

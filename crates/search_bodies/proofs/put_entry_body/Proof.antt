@@ -6,9 +6,10 @@ use borrow.Author.Needs.{needs}
 use lib.ListN.{length, length-append}
 use denote.Ref.{now}
 use Rattle.bpf.proofs.Laws.{put-next}
-use Rattle.rule.specs.At.{rulesHere}
-use Rattle.rule.proofs.Laws.{put-none, past-none}
+use Rattle.rule.proofs.Laws.{put-none}
 use Rattle.definitions.specs.Emitted.{ruleBodies, entryBody}
+use Rattle.set_view.specs.Parts.{rulePast, rulesHere}
+use Rattle.set_view.proofs.Walk.{behind-none}
 use Rattle.search_bodies.proofs.Laws.{entry-body-none, entry-body-some}
 use Rattle.search_bodies.proofs.put_entry_body.Statement.{statement}
 use Rattle.search_bodies.proofs.put_entry_body.Tie as tie
@@ -18,7 +19,7 @@ returns c =
     let a = c .before .before .before .args in
     let s = now (a .s) in
     let e = entry-body-none s (a .n) (a .from) (a .m) (a .d) (c .if1 .taken) in
-    (rw e (sym (put-none _ (a .at))), rw e (omega arith), sym (past-none s (a .n) (a .from) (c .if1 .taken)))
+    (rw e (sym (put-none _ (a .at))), rw e (omega arith), sym (behind-none (rulePast s) (a .n) (a .from) (c .if1 .taken)))
 
 put-rule-bodies-requires : tie.Need-put-rule-bodies-requires
 put-rule-bodies-requires c κs =

@@ -2,7 +2,7 @@
 use native.Mathlib.Omega.{arith}
 use borrow.Author.Needs.{needs}
 use denote.Ref.{now}
-use Rattle.rule.specs.At.{conditionsHere}
+use Rattle.set_view.specs.Parts.{conditionsHere}
 use Rattle.search_bodies.proofs.Laws.{rule-sizes, rule-body-put}
 use Rattle.search_bodies.proofs.put_rule_body.Statement.{statement}
 use Rattle.search_bodies.proofs.put_rule_body.Tie as tie

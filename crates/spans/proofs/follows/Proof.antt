@@ -3,8 +3,8 @@ use mathlib.Core.Path.{refl, sym, _∙_}
 use native.Mathlib.Omega.{arith}
 use borrow.Author.Needs.{needs}
 use denote.Ref.{now}
-use Rattle.list_form.proofs.Laws.{plain-is}
 use Rattle.search_bodies.proofs.Laws.{entry-room}
+use Rattle.set_view.proofs.Walk.{plain-is}
 use Rattle.spans.proofs.follows.Statement.{statement}
 use Rattle.spans.proofs.follows.Tie as tie
 

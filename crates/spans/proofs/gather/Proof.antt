@@ -5,9 +5,9 @@ use Prim.Native.Nat.{_≤_}
 use native.Mathlib.Omega.{arith}
 use lib.ListN.{length}
 use denote.Ref.{now}
-use Rattle.list_form.specs.At.{entriesPast}
 use Rattle.search_form.specs.Search.{plainSpans}
 use Rattle.search_bodies.specs.Here.{bodiesHere}
+use Rattle.set_view.specs.Parts.{entriesPast}
 use Rattle.spans.specs.Spans.{spansHere, spansFrom, destination}
 use Rattle.spans.proofs.Reading.{gathered, gather-begin, gather-end, follows-is}
 use Rattle.spans.proofs.gather.Statement.{statement}

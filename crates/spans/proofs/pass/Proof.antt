@@ -4,8 +4,9 @@ use native.Mathlib.Omega.{arith}
 use borrow.Author.Needs.{needs}
 use denote.Ref.{now}
 use Rattle.definitions.specs.Word.{numberAt}
-use Rattle.list_form.proofs.Laws.{entry-past, entry-inside, entries-past-more}
 use Rattle.search_bodies.proofs.Laws.{entry-room, entries-here, bodies-long}
+use Rattle.set_view.proofs.Walk.{behind-more, entry-inside, entry-past}
+use Rattle.set_view.specs.Parts.{entryPast}
 use Rattle.spans.proofs.pass.Statement.{statement}
 use Rattle.spans.proofs.pass.Tie as tie
 
@@ -51,7 +52,7 @@ returns c =
     let b = bodies-long s left at (numberAt 4 s 8) (numberAt 4 s 4) (c .before .before .before .before .before .before .pre .1) in
     record {
       entries = rw p (entries-here s left at (c .before .before .before .before .before .before .pre .1));
-      stands = record { inside = rw (p, ← entries-past-more s left at (c .before .before .before .before .before .before .pre .1)) (c .before .before .before .before .before .before .pre .0 .inside); size = c .before .before .before .before .before .before .pre .0 .size; place = rw p (omega (arith, k, b, c .before .before .before .before .before .before .pre .0 .place)) };
+      stands = record { inside = rw (p, ← behind-more (entryPast s) left at (c .before .before .before .before .before .before .pre .1)) (c .before .before .before .before .before .before .pre .0 .inside); size = c .before .before .before .before .before .before .pre .0 .size; place = rw p (omega (arith, k, b, c .before .before .before .before .before .before .pre .0 .place)) };
       fewer = omega (arith, c .before .before .before .before .before .before .pre .1);
       behind = omega arith;
     }
