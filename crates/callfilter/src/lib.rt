@@ -6,6 +6,7 @@ ghost use mathlib.Core.Option.{some};
 ghost use lib.Dec.{eqb};
 ghost use Prim.Native.Nat.{_≤_};
 ghost use Rattle.definitions.specs.Answer as answers;
+ghost use Rattle.definitions.specs.Answer.{filterFaults, leastOf};
 ghost use Rattle.definitions.specs.Format.{read};
 ghost use Rattle.definitions.specs.Compiled.{Compiled, Searched};
 ghost use Rattle.definitions.specs.Kernel.{acceptsBytes};
@@ -14,7 +15,7 @@ ghost use Rattle.definitions.specs.Parts.{withEntry, withRule, conditionPart};
 ghost use Rattle.definitions.specs.Writers.{Started, Added};
 ghost use Rattle.definitions.specs.Readers as readers;
 ghost use Rattle.search_form.specs.Counts.{searchSize};
-ghost use Rattle.callfilter.specs.Verdict.{early, codeFrom};
+ghost use Rattle.set_view.specs.Parts.{mostBytes};
 use definitions::Answer;
 use definitions::Compared;
 use definitions::Cursor;
@@ -23,55 +24,14 @@ use definitions::Head;
 use definitions::Listed;
 use definitions::Outcome;
 use definitions::Writer;
+use judge::fault;
+use judge::note;
 
-fn no_fault() -> Fault
-    ensures { λ r. ⌜ r ≡ answers.noFault ⌝ }
-{
-    Fault {
-        entry: 0xffffffff,
-        rule: 0xffffffff,
-        condition: 0xffffffff,
-    }
-}
+// A filter of so many instructions is too long.
+const TOO_MANY: usize = 4097;
 
-fn give(code: u32, count: u32, fault: Fault) -> Answer
-    ensures { λ r. ⌜ r ≡ answers.answer code count fault ⌝ }
-{
-    Answer {
-        code: code,
-        count: count,
-        entry: fault.entry,
-        rule: fault.rule,
-        condition: fault.condition,
-    }
-}
-
-// Whether what is refused comes before the filter's length.
-fn is_early(refused: u32) -> bool
-    ensures { λ r. ⌜ r ≡ early refused ⌝ }
-{
-    if refused == 0 {
-        return false;
-    }
-    refused < 6
-}
-
-// The smallest number that applies to a set in which `refused` is refused, 0 for nothing, and whose filter has `size` instructions.
-fn code_from(refused: u32, size: usize, room: usize) -> u32
-    requires { ⌜ size ≤ 1048581 ⌝ }
-    ensures { λ r. ⌜ r ≡ codeFrom refused size room ⌝ }
-{
-    if is_early(refused) {
-        return refused;
-    }
-    if 4097 <= size {
-        return 6;
-    }
-    if room < 8 * size {
-        return 7;
-    }
-    refused
-}
+// What stands for a number that does not apply.
+const NOWHERE: u32 = 0xffffffff;
 
 // How many instructions are told with a code.
 fn count_with(code: u32, count: u32) -> u32
@@ -85,19 +45,30 @@ fn count_with(code: u32, count: u32) -> u32
     }
 }
 
+// The answer for a set in which this was found, and whose filter has `size` instructions; `long` is the entry that is told where they are
+// too many.
+fn answer_for(found: Fault, size: usize, long: u32, room: usize) -> Answer
+    requires { ⌜ size ≤ mostBytes ⌝ }
+    ensures { λ r. ⌜ r ≡ answers.answer size (leastOf found (filterFaults size long room)) ⌝ }
+{
+    let short = note(found, size < TOO_MANY, fault(6, long, NOWHERE, NOWHERE));
+    let least = note(short, 8 * size <= room, fault(7, NOWHERE, NOWHERE, NOWHERE));
+    let code = least.code;
+    Answer {
+        code: code,
+        count: count_with(code, size as u32),
+        entry: least.entry,
+        rule: least.rule,
+        condition: least.condition,
+    }
+}
+
 // The answer for a set and a room.
 fn verdict(set: &[u8], room: usize) -> Answer
     ensures { λ r. ⌜ r ≡ answers.answerOf (now (set .entry)) room ⌝ }
 {
     let found = judge::judge(set);
-    let size = found.count;
-    let code = code_from(found.code, size, room);
-    let count = count_with(code, size as u32);
-    // what is not of the format has no parts to name
-    if code == 1 {
-        return give(code, count, no_fault());
-    }
-    give(code, count, location::locate(set, code))
+    answer_for(found.fault, found.count, found.long, room)
 }
 
 // Compiles a rule set into a lent buffer.
@@ -113,22 +84,17 @@ pub extern "C" fn callfilter_compile(set: &[u8], out: &mut [u8]) -> Answer
     r
 }
 
-// The answer for a set and a room, where the filter is a search.
+// The answer for a set and a room, where the filter is a search. It does not grow entry by entry, so that none is told where it is too
+// long.
 fn search_verdict(set: &[u8], room: usize) -> Answer
-    ensures { λ r. ⌜ r ≡ answers.answerBy searchSize (λ rs. answers.noFault) (read (now (set .entry))) room ⌝ }
+    ensures { λ r. ⌜ r ≡ answers.answerBy searchSize (λ rs. answers.nowhere) (read (now (set .entry))) room ⌝ }
 {
-    let found = judge::judge(set);
-    if found.code == 1 {
-        return give(1, 0, no_fault());
+    let fault = judge::judge(set).fault;
+    // what is not of the format has no filter
+    if fault.code == 1 {
+        return answer_for(fault, 0, NOWHERE, room);
     }
-    let size = search_writer::search_length(set);
-    let code = code_from(found.code, size, room);
-    let count = count_with(code, size as u32);
-    // a search does not grow entry by entry, so no entry is the one that is too many
-    if code == 6 {
-        return give(code, count, no_fault());
-    }
-    give(code, count, location::locate(set, code))
+    answer_for(fault, search_writer::search_length(set), NOWHERE, room)
 }
 
 // Compiles a rule set into a lent buffer, as a search.

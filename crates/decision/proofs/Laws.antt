@@ -14,10 +14,10 @@ use Rattle.definitions.specs.Format.{read}
 use Rattle.definitions.specs.Answer.{refusal}
 use Rattle.definitions.specs.Outcome.{decided, decidedRead, decidedOf}
 use Rattle.judge.specs.declared.Judged.{Judged}
-use Rattle.judge.specs.Scan.{judged}
+use Rattle.judge.specs.Walk.{judged}
 use Rattle.set_view.specs.Names.{guardsBy, namedArchitecture}
-use Rattle.set_view.specs.Parts.{conditionHere, conditionsHere, entriesHere, entriesPast, entryHere, entryPast, parts, rulesHere, rulesPast, setHere}
-use Rattle.set_view.proofs.Agree.{read-agrees}
+use Rattle.set_view.specs.Parts.{Readable, conditionHere, conditionsHere, entriesHere, entriesPast, entryHere, entryPast, parts, rulesHere, rulesPast, setHere}
+use Rattle.set_view.proofs.Agree.{read-agrees, readable}
 use Rattle.set_view.proofs.Walk.{entry-further, entry-inside, entry-past}
 
 -- ---- an argument
@@ -130,34 +130,26 @@ entry-fits s n at past h e i =
 
 -- ---- what is decided, by what is said of the set
 
-refused-by : (x : Option RuleSet) (c : Call) → (judged x .code ≡ 0 → ⊥) → decidedRead x c ≡ decided (judged x .code) 0
+refused-by : (x : Option RuleSet) (c : Call) → (judged x .fault .code ≡ 0 → ⊥) → decidedRead x c ≡ decided (judged x .fault .code) 0
 unfolding judged
 refused-by none c h = refl
-refused-by (some rs) c h = rw (ne-eqb (refusal rs) 0 h)
+refused-by (some rs) c h = rw (ne-eqb (refusal rs .code) 0 h)
 
-pub decided-refused : (set call : List ℕ) (j : Judged) → length call ≡ 64 → j ≡ judged (read set) → (j .code ≡ 0 → ⊥)
-    → decidedOf set call ≡ decided (j .code) 0
+pub decided-refused : (set call : List ℕ) (j : Judged) → length call ≡ 64 → j ≡ judged (read set) → (j .fault .code ≡ 0 → ⊥)
+    → decidedOf set call ≡ decided (j .fault .code) 0
 unfolding decidedOf
 decided-refused set call j size e h = rw (eq-eqb (length call) 64 size, e) (refused-by (read set) (callOf call) (rw e at h))
 
--- a set of which nothing is refused: its bytes may be walked, and what they mean is decided
-pub record Decides (set : List ℕ) (x : Option RuleSet) (c : Call) : Type 0 where
-  pub head : 16 ≤ length set
-  pub size : length set ≤ 1048576
-  pub entries : entriesPast set (numberAt 4 set 12) 16 ≤ length set
-  pub said : decidedRead x c ≡ decided 0 (meaning (setHere set) c)
-
-decides-by : (set : List ℕ) (x : Option RuleSet) (c : Call) → read set ≡ x → judged x .code ≡ 0 → Decides set x c
+-- a set in which nothing is refused: what it means is decided
+decides-by : (set : List ℕ) (x : Option RuleSet) (c : Call) → read set ≡ x → judged x .fault .code ≡ 0
+    → Readable set × (decidedRead x c ≡ decided 0 (meaning (setHere set) c))
 unfolding judged
 decides-by set none c e z = absurd (omega arith)
-decides-by set (some rs) c e z =
-    let g = read-agrees set rs e in
-    record { head = g .1; size = g .2; entries = omega (arith, g .3); said = rw (← g .0, eq-eqb (refusal rs) 0 z) }
+decides-by set (some rs) c e z = (readable set rs e, rw (← read-agrees set rs e .0, eq-eqb (refusal rs .code) 0 z))
 
-pub decides : (set : List ℕ) (c : Call) (j : Judged) → j ≡ judged (read set) → j .code ≡ 0 → Decides set (read set) c
-decides set c j e z = decides-by set (read set) c refl (rw e at z)
-
-pub decided-meaning : (set call : List ℕ) → length call ≡ 64 → Decides set (read set) (callOf call)
-    → decidedOf set call ≡ decided 0 (meaning (setHere set) (callOf call))
+pub decides : (set call : List ℕ) (j : Judged) → length call ≡ 64 → j ≡ judged (read set) → j .fault .code ≡ 0
+    → Readable set × (decidedOf set call ≡ decided 0 (meaning (setHere set) (callOf call)))
 unfolding decidedOf
-decided-meaning set call size d = rw (eq-eqb (length call) 64 size) (d .said)
+decides set call j size e z =
+    let w = decides-by set (read set) (callOf call) refl (rw e at z) in
+    (w .0, rw (eq-eqb (length call) 64 size) (w .1))

@@ -9,7 +9,7 @@ ghost use Rattle.definitions.specs.Machine.{callOf};
 ghost use Rattle.definitions.specs.RuleSet as defined;
 ghost use Rattle.definitions.specs.Outcome as outcomes;
 ghost use Rattle.set_view.specs.Names.{guardsBy};
-ghost use Rattle.set_view.specs.Parts.{conditionsHere, entriesHere, entriesPast, rulesHere, rulesPast, setHere};
+ghost use Rattle.set_view.specs.Parts.{Reach, Readable, conditionsHere, entriesHere, entriesPast, rulesHere, rulesPast, setHere};
 use definitions::Condition;
 use definitions::Operator;
 use definitions::Outcome;
@@ -74,7 +74,7 @@ fn holds(call: &[u8], q: Condition) -> bool
 // Whether all n conditions of a rule hold.
 fn all_hold(call: &[u8], s: &[u8], n: u32, from: usize) -> bool
     requires { ⌜ length (now call) ≡ 64 ⌝ }
-    requires { ⌜ (from + 24 * n ≤ length (now s)) × (length (now s) ≤ 1048576) ⌝ }
+    requires { ⌜ Reach (now s) (from + 24 * n) ⌝ }
     ensures { λ r. ⌜ r ≡ defined.allHold (callOf (now (call .entry))) (conditionsHere (now (s .entry)) n from) ⌝ }
 {
     let mut at = from;
@@ -92,7 +92,7 @@ fn all_hold(call: &[u8], s: &[u8], n: u32, from: usize) -> bool
 // Whether one of n rules matches.
 fn any_holds(call: &[u8], s: &[u8], n: u32, from: usize) -> bool
     requires { ⌜ length (now call) ≡ 64 ⌝ }
-    requires { ⌜ (rulesPast (now s) n from ≤ length (now s)) × (length (now s) ≤ 1048576) ⌝ }
+    requires { ⌜ Reach (now s) (rulesPast (now s) n from) ⌝ }
     ensures { λ r. ⌜ r ≡ defined.anyHolds (callOf (now (call .entry))) (rulesHere (now (s .entry)) n from) ⌝ }
 {
     let mut at = from;
@@ -111,7 +111,7 @@ fn any_holds(call: &[u8], s: &[u8], n: u32, from: usize) -> bool
 // Whether an entry with n rules matches; without rules it always does.
 fn matches(call: &[u8], s: &[u8], n: u32, from: usize) -> bool
     requires { ⌜ length (now call) ≡ 64 ⌝ }
-    requires { ⌜ (rulesPast (now s) n from ≤ length (now s)) × (length (now s) ≤ 1048576) ⌝ }
+    requires { ⌜ Reach (now s) (rulesPast (now s) n from) ⌝ }
     ensures { λ r. ⌜ r ≡ defined.matches (callOf (now (call .entry))) (rulesHere (now (s .entry)) n from) ⌝ }
 {
     if n == 0 {
@@ -123,7 +123,7 @@ fn matches(call: &[u8], s: &[u8], n: u32, from: usize) -> bool
 // What n entries say. Match action m, mismatch action d.
 fn listed(call: &[u8], s: &[u8], n: u32, from: usize, m: u32, d: u32) -> u32
     requires { ⌜ length (now call) ≡ 64 ⌝ }
-    requires { ⌜ (entriesPast (now s) n from ≤ length (now s)) × (length (now s) ≤ 1048576) ⌝ }
+    requires { ⌜ Reach (now s) (entriesPast (now s) n from) ⌝ }
     ensures { λ r. ⌜ r ≡ defined.listed (callOf (now (call .entry))) m d (entriesHere (now (s .entry)) n from) ⌝ }
 {
     let number = bpf::u32_at(call, 0);
@@ -166,7 +166,7 @@ fn kills(a: u32, number: u32) -> bool
 
 // What a set of the format means. A call of another architecture is killed.
 fn meaning(s: &[u8], call: &[u8]) -> u32
-    requires { ⌜ (16 ≤ length (now s)) × (length (now s) ≤ 1048576) × (entriesPast (now s) (numberAt 4 (now s) 12) 16 ≤ length (now s)) ⌝ }
+    requires { ⌜ Readable (now s) ⌝ }
     requires { ⌜ length (now call) ≡ 64 ⌝ }
     ensures { λ r. ⌜ r ≡ defined.meaning (setHere (now (s .entry))) (callOf (now (call .entry))) ⌝ }
 {
@@ -200,7 +200,7 @@ pub fn decide(set: &[u8], call: &[u8]) -> Outcome
     if call.len() != 64 {
         return decided(9, 0);
     }
-    let code = judge::judge(set).code;
+    let code = judge::judge(set).fault.code;
     if code != 0 {
         return decided(code, 0);
     }

@@ -1,5 +1,6 @@
--- Which answer a byte string and an output buffer get: the smallest number that applies. With 0, 6 and 7 comes the number of
--- instructions; with the others 0. With 2, 4, 5, 6 and 8 comes where the fault is, the first in the order of the bytes.
+-- Which answer a byte string and an output buffer get. All that is wrong with a rule set or its filter is a list of faults, in the order
+-- of the bytes, each with a number and a place; the answer is the one with the smallest number, and of those the first. With 0, 6 and 7
+-- comes the number of instructions; with the others 0.
 --
 --   0  compiled
 --   1  not of the format
@@ -10,12 +11,12 @@
 --   6  too many instructions
 --   7  the output buffer is too short
 --   8  a dword condition whose value or mask has more than 32 bits
-use Prim.Native.Nat.{ℕ, suc, _*_}
+use Prim.Native.Nat.{ℕ, suc, _+_, _*_}
 use mathlib.Core.Bool.{Bool, true, false, cond, not, _&&_, _||_}
 use mathlib.Core.List.{List, [], _∷_, _++_}
 use mathlib.Core.Option.{Option, none, some}
 use lib.Dec.{eqb, leb, ltb}
-use lib.ListN.{length, getD}
+use lib.ListN.{length}
 use Rattle.definitions.specs.declared.Width.{Width}
 use Rattle.definitions.specs.declared.Width.the-variants.{Dword, Qword}
 use Rattle.definitions.specs.declared.Condition.{Condition}
@@ -25,31 +26,10 @@ use Rattle.definitions.specs.RuleSet.{Rule, Entry, RuleSet, withEntries}
 use Rattle.definitions.specs.Emitted.{emitted}
 use Rattle.definitions.specs.Format.{read}
 
-unfoldable pub ascending : List Entry → Bool
-ascending [] = true
-ascending (e ∷ []) = true
-ascending (e ∷ (f ∷ es)) = ltb (e .number) (f .number) && ascending (f ∷ es)
-
-abbrev pub all : {A : Type 0} → (A → Bool) → List A → Bool
-all f [] = true
-all f (x ∷ xs) = f x && all f xs
-
--- what every rule of every entry passes
-abbrev pub everyRule : (Rule → Bool) → RuleSet → Bool
-everyRule f rs = all (λ (e : Entry). all f (e .rules)) (rs .entries)
-
-abbrev pub hasConditions : Rule → Bool
-hasConditions [] = false
-hasConditions (q ∷ qs) = true
+-- ---- what is asked of conditions and rules
 
 abbrev pub indexTaken : Condition → Bool
 indexTaken q = leb (q .index) 5
-
-abbrev pub rulesFilled : RuleSet → Bool
-rulesFilled rs = everyRule hasConditions rs
-
-abbrev pub indicesTaken : RuleSet → Bool
-indicesTaken rs = everyRule (all indexTaken) rs
 
 -- a number that a condition of this width looks at whole
 abbrev pub seenWhole : Width → ℕ → Bool
@@ -59,99 +39,105 @@ seenWhole Qword x = true
 abbrev pub fitsWidth : Condition → Bool
 fitsWidth q = seenWhole (q .width) (q .value) && seenWhole (q .width) (q .mask)
 
-abbrev pub widthsFit : RuleSet → Bool
-widthsFit rs = everyRule (all fitsWidth) rs
+abbrev pub hasConditions : Rule → Bool
+hasConditions [] = false
+hasConditions (q ∷ qs) = true
 
--- the kernel takes 4,096 instructions (BPF_MAXINSNS); a filter of this many, or more, is refused
-abbrev pub tooMany : ℕ
-tooMany = 4097
+-- ---- a fault: its number, and its entry, rule and condition, counted from 0
 
--- the smallest number that applies to a rule set whose filter has n instructions
-unfoldable pub codeWith : ℕ → RuleSet → ℕ → ℕ
-codeWith n rs room =
-    cond (not (ascending (rs .entries))) 2
-    (cond (eqb (rs .mismatch) (rs .onMatch)) 3
-    (cond (not (rulesFilled rs)) 4
-    (cond (not (indicesTaken rs)) 5
-    (cond (leb tooMany n) 6
-    (cond (ltb room (8 * n)) 7
-    (cond (not (widthsFit rs)) 8
-    0))))))
-
--- what is refused in a rule set, whatever its filter's length: as if it had no instructions
-abbrev pub refusal : RuleSet → ℕ
-refusal rs = codeWith 0 rs 0
-
--- how many instructions are told of n
-abbrev pub countWith : ℕ → ℕ → ℕ
-countWith code n = cond (eqb code 0 || eqb code 6 || eqb code 7) n 0
-
--- ---- where the fault is
-
--- entry, rule and condition, counted from 0
-abbrev pub fault : ℕ → ℕ → ℕ → Fault
-fault e r c = record { entry = e; rule = r; condition = c }
+abbrev pub fault : ℕ → ℕ → ℕ → ℕ → Fault
+fault code e r c = record { code = code; entry = e; rule = r; condition = c }
 
 -- what stands for a number that does not apply
 abbrev pub nowhere : ℕ
 nowhere = 0xffffffff
 
+-- a fault that has no place, and none at all
+abbrev pub placeless : ℕ → Fault
+placeless code = fault code nowhere nowhere nowhere
+
 abbrev pub noFault : Fault
-noFault = fault nowhere nowhere nowhere
+noFault = placeless 0
 
--- how many stand in front of the first that does not pass
-unfoldable pub firstFailing : {A : Type 0} → (A → Bool) → List A → ℕ
-firstFailing f [] = 0
-firstFailing f (x ∷ xs) = cond (f x) (suc (firstFailing f xs)) 0
+-- ---- the faults of a rule set
 
-abbrev pub noEntry : Entry
-noEntry = record { number = 0; rules = [] }
+unfoldable pub unless : Bool → Fault → List Fault
+unless true f = []
+unless false f = f ∷ []
 
--- the first rule that does not pass, and what is told of it
-unfoldable pub faultyRule : (Rule → Bool) → (Rule → ℕ) → List Entry → Fault
-faultyRule f inside es =
-    let e : ℕ = firstFailing (λ (x : Entry). all f (x .rules)) es in
-    let rules : List Rule = getD es e noEntry .rules in
-    let r : ℕ = firstFailing f rules in
-    fault e r (inside (getD rules r []))
+-- those of some parts, counted from n
+unfoldable pub faultsOf : {A : Type 0} → (ℕ → A → List Fault) → ℕ → List A → List Fault
+faultsOf f n [] = []
+faultsOf f n (x ∷ xs) = f n x ++ faultsOf f (suc n) xs
+
+unfoldable pub conditionFaults : ℕ → ℕ → ℕ → Condition → List Fault
+conditionFaults e r c q =
+    unless (indexTaken q) (fault 5 e r c)
+    ++ unless (fitsWidth q) (fault 8 e r c)
+
+unfoldable pub ruleFaults : ℕ → ℕ → Rule → List Fault
+ruleFaults e r qs = unless (hasConditions qs) (fault 4 e r nowhere) ++ faultsOf (conditionFaults e r) 0 qs
+
+-- those of the entries from the e-th on, of which the first may have this number at least
+unfoldable pub entriesFaults : ℕ → ℕ → List Entry → List Fault
+entriesFaults least e [] = []
+entriesFaults least e (x ∷ xs) =
+    unless (leb least (x .number)) (fault 2 e nowhere nowhere)
+    ++ (faultsOf (ruleFaults e) 0 (x .rules) ++ entriesFaults (x .number + 1) (suc e) xs)
+
+unfoldable pub setFaults : RuleSet → List Fault
+setFaults rs = unless (not (eqb (rs .mismatch) (rs .onMatch))) (placeless 3) ++ entriesFaults 0 0 (rs .entries)
+
+-- ---- those of its filter
+
+-- the kernel takes 4,096 instructions (BPF_MAXINSNS); a filter of this many, or more, is refused
+abbrev pub tooMany : ℕ
+tooMany = 4097
+
+-- of n instructions; `long` is the entry that is told where they are too many
+unfoldable pub filterFaults : ℕ → ℕ → ℕ → List Fault
+filterFaults n long room = unless (ltb n tooMany) (fault 6 long nowhere nowhere) ++ unless (leb (8 * n) room) (placeless 7)
 
 -- how many entries stand in front of the first with which those up to it do not pass
 unfoldable pub firstWith : (List Entry → Bool) → List Entry → List Entry → ℕ
 firstWith f seen [] = 0
 firstWith f seen (e ∷ es) = cond (f (seen ++ (e ∷ []))) (suc (firstWith f (seen ++ (e ∷ [])) es)) 0
 
--- whether the filter, its last return included, is short enough with these entries
+-- whether the emitted filter, its last return included, is short enough with these entries
 abbrev pub shortWith : RuleSet → List Entry → Bool
 shortWith rs es = ltb (length (emitted (withEntries rs es))) tooMany
 
--- where an emitted filter is too long
-abbrev pub tooLong : RuleSet → Fault
-tooLong rs = fault (firstWith (shortWith rs) [] (rs .entries)) nowhere nowhere
+-- the first entry with which it is not
+abbrev pub tooLong : RuleSet → ℕ
+tooLong rs = firstWith (shortWith rs) [] (rs .entries)
 
--- where the fault is that a code speaks of; `long` is told with 6
-unfoldable pub faultOf : Fault → ℕ → RuleSet → Fault
-faultOf long code rs =
-    cond (eqb code 2) (fault (firstWith ascending [] (rs .entries)) nowhere nowhere)
-    (cond (eqb code 4) (faultyRule hasConditions (λ r. nowhere) (rs .entries))
-    (cond (eqb code 5) (faultyRule (all indexTaken) (firstFailing indexTaken) (rs .entries))
-    (cond (eqb code 6) long
-    (cond (eqb code 8) (faultyRule (all fitsWidth) (firstFailing fitsWidth) (rs .entries))
-    noFault))))
+-- ---- the least
+
+-- what was found so far, and one more
+unfoldable pub lesser : Fault → Fault → Fault
+lesser a b = cond (eqb (a .code) 0 || ltb (b .code) (a .code)) b a
+
+unfoldable pub leastOf : Fault → List Fault → Fault
+leastOf a [] = a
+leastOf a (f ∷ fs) = leastOf (lesser a f) fs
+
+-- what is refused in a rule set, whatever its filter's length
+abbrev pub refusal : RuleSet → Fault
+refusal rs = leastOf noFault (setFaults rs)
 
 -- ---- the answer
 
-abbrev pub answer : ℕ → ℕ → Fault → Answer
-answer code count f = record { code = code; count = count; entry = f .entry; rule = f .rule; condition = f .condition }
+-- how many instructions are told of n
+abbrev pub countWith : ℕ → ℕ → ℕ
+countWith code n = cond (eqb code 0 || eqb code 6 || eqb code 7) n 0
 
--- n instructions, and where they are too many
-unfoldable pub answerWith : ℕ → Fault → RuleSet → ℕ → Answer
-answerWith n long rs room =
-    let code : ℕ = codeWith n rs room in answer code (countWith code n) (faultOf long code rs)
+unfoldable pub answer : ℕ → Fault → Answer
+answer n f = record { code = f .code; count = countWith (f .code) n; entry = f .entry; rule = f .rule; condition = f .condition }
 
--- for a rule set whose filter has `size` instructions; `long` is where it is too long
-abbrev pub answerBy : (RuleSet → ℕ) → (RuleSet → Fault) → Option RuleSet → ℕ → Answer
-answerBy size long none room = answer 1 0 noFault
-answerBy size long (some rs) room = answerWith (size rs) (long rs) rs room
+-- for a rule set whose filter has `size` instructions; `long` is the entry that is told where it is too long
+abbrev pub answerBy : (RuleSet → ℕ) → (RuleSet → ℕ) → Option RuleSet → ℕ → Answer
+answerBy size long none room = answer 0 (placeless 1)
+answerBy size long (some rs) room = answer (size rs) (leastOf (refusal rs) (filterFaults (size rs) (long rs) room))
 
 -- how many instructions are emitted
 abbrev pub emittedSize : RuleSet → ℕ
@@ -160,3 +146,27 @@ emittedSize rs = length (emitted rs)
 -- the answer for a byte string and a buffer of `room` bytes
 unfoldable pub answerOf : List ℕ → ℕ → Answer
 answerOf bs room = answerBy emittedSize tooLong (read bs) room
+
+-- ---- what it is to have none of the faults, by the number: what theorems speak of
+
+abbrev pub all : {A : Type 0} → (A → Bool) → List A → Bool
+all f [] = true
+all f (x ∷ xs) = f x && all f xs
+
+unfoldable pub ascending : List Entry → Bool
+ascending [] = true
+ascending (e ∷ []) = true
+ascending (e ∷ (f ∷ es)) = ltb (e .number) (f .number) && ascending (f ∷ es)
+
+-- what every rule of every entry passes
+abbrev pub everyRule : (Rule → Bool) → RuleSet → Bool
+everyRule f rs = all (λ (e : Entry). all f (e .rules)) (rs .entries)
+
+abbrev pub rulesFilled : RuleSet → Bool
+rulesFilled rs = everyRule hasConditions rs
+
+abbrev pub indicesTaken : RuleSet → Bool
+indicesTaken rs = everyRule (all indexTaken) rs
+
+abbrev pub widthsFit : RuleSet → Bool
+widthsFit rs = everyRule (all fitsWidth) rs

@@ -40,7 +40,7 @@ decided code action = record { code = code; action = action; steps = 0 }
 -- What is refused is not decided. Too long a filter is no refusal here, since none is made.
 abbrev pub decidedRead : Option RuleSet → Call → Outcome
 decidedRead none c = decided 1 0
-decidedRead (some rs) c = cond (eqb (refusal rs) 0) (decided 0 (meaning rs c)) (decided (refusal rs) 0)
+decidedRead (some rs) c = cond (eqb (refusal rs .code) 0) (decided 0 (meaning rs c)) (decided (refusal rs .code) 0)
 
 -- what a rule set's bytes mean for a call's bytes
 unfoldable pub decidedOf : List ℕ → List ℕ → Outcome

@@ -35,9 +35,10 @@ pub struct Condition {
     pub mask: u64,
 }
 
-// Where in a rule set a fault is: the entry, the rule of the entry and the condition of the rule, counted from 0; ffffffff where a
-// number does not apply.
+// What is wrong, and where: the number of the answer, 0 for nothing; the entry, the rule of the entry and the condition of the rule,
+// counted from 0, ffffffff where a number does not apply.
 pub struct Fault {
+    pub code: u32,
     pub entry: u32,
     pub rule: u32,
     pub condition: u32,

@@ -1,29 +1,75 @@
-// Rule sets as bytes, read in one walk: whether they are of the format, whether something in them is refused, and how many instructions
-// their filter has. Nothing in the bytes is trusted: whatever a count says, the walk ends where the bytes do.
+// Rule sets as bytes, judged in one walk: whether they are of the format, the least fault in them with its place, how many instructions
+// their filter has, and with how many entries it is short enough. Nothing in the bytes is trusted: whatever a count says, the walk ends
+// where the bytes do.
 ghost use mathlib.Core.Path.{_≡_};
-ghost use mathlib.Core.Bool.{true, false, _&&_};
-ghost use Prim.Native.Nat.{_+_, _≤_, _<_};
-ghost use lib.Dec.{eqb};
+ghost use mathlib.Core.Bool.{true, cond, not, _&&_};
+ghost use mathlib.Core.Option.{none};
+ghost use Prim.Native.Nat.{_+_, _-_, _≤_, _<_};
+ghost use lib.Dec.{eqb, ltb};
 ghost use lib.ListN.{length};
 ghost use Rattle.definitions.specs.Word.{numberAt};
 ghost use Rattle.definitions.specs.RuleSet.{isAction};
-ghost use Rattle.definitions.specs.Answer.{fitsWidth};
-ghost use Rattle.definitions.specs.Format.{widthOf, isThere, times, conditionAt, ruleAt, entryAt, read};
-ghost use Rattle.judge.specs.Scan.{notThere, Scanned, conditionsScan, ruleScan, rulesScan, bodyOr, entryScan, plainThere, Turned, entriesScan, headTaken, setScan, refusalFrom, judged};
+ghost use Rattle.definitions.specs.Format.{widthOf, isThere, times, conditionAt, ruleAt, read};
+ghost use Rattle.definitions.specs.Answer as answers;
+ghost use Rattle.definitions.specs.Answer.{fitsWidth, unless, conditionFaults, leastOf};
+ghost use Rattle.set_view.specs.Parts.{mostBytes};
+ghost use Rattle.judge.specs.Walk.{sum, total, tells, told, tellCondition, tellRule, conditionsStart, notThere, Scanned, plainThere, entriesTold, noTurn, Turned, turnOf, headTaken, judged};
 use definitions::Condition;
+use definitions::Fault;
 use definitions::Width;
 use set_view::condition_here;
 
-// What a walk over a part found: whether it is of the format, the place behind it, how many instructions it has, whether all its rules
-// have conditions, all its indices are at most 5, all its values and masks are seen whole, and all its numbers ascend.
+// How many bytes a set has at most, and its head, an entry, a rule and a condition without the parts in them.
+const MOST_BYTES: usize = 1048576;
+
+const HEAD_SIZE: usize = 16;
+
+const ENTRY_SIZE: usize = 8;
+
+const RULE_SIZE: usize = 4;
+
+const CONDITION_SIZE: usize = 24;
+
+// A filter of so many instructions is too long.
+const TOO_MANY: usize = 4097;
+
+// What stands for a number that does not apply.
+const NOWHERE: u32 = 0xffffffff;
+
+pub fn fault(code: u32, entry: u32, rule: u32, condition: u32) -> Fault
+    ensures { λ r. ⌜ r ≡ answers.fault code entry rule condition ⌝ }
+{
+    Fault {
+        code: code,
+        entry: entry,
+        rule: rule,
+        condition: condition,
+    }
+}
+
+// What was found so far, and what a test finds that should hold.
+pub fn note(found: Fault, holds: bool, more: Fault) -> Fault
+    ensures { λ r. ⌜ r ≡ leastOf found (unless holds more) ⌝ }
+{
+    if holds {
+        return found;
+    }
+    if found.code == 0 {
+        return more;
+    }
+    if more.code < found.code {
+        return more;
+    }
+    found
+}
+
+// What a walk over a part found, with what was found before it: whether it is of the format, the place behind it, how many instructions
+// there are, and the least fault.
 pub struct Scan {
     pub ok: bool,
     pub past: usize,
     pub count: usize,
-    pub filled: bool,
-    pub indexed: bool,
-    pub fitted: bool,
-    pub ascending: bool,
+    pub fault: Fault,
 }
 
 fn not_there() -> Scan
@@ -33,10 +79,7 @@ fn not_there() -> Scan
         ok: false,
         past: 0,
         count: 0,
-        filled: false,
-        indexed: false,
-        fitted: false,
-        ascending: false,
+        fault: fault(0, NOWHERE, NOWHERE, NOWHERE),
     }
 }
 
@@ -62,7 +105,7 @@ pub fn width_known(width: u8) -> bool
 
 // Whether a condition of the format stands at a place.
 fn condition_there(s: &[u8], at: usize) -> bool
-    requires { ⌜ (at ≤ length (now s)) × (length (now s) ≤ 1048576) ⌝ }
+    requires { ⌜ (at ≤ length (now s)) × (length (now s) ≤ mostBytes) ⌝ }
     ensures { λ r. ⌜ r ≡ isThere (conditionAt (now (s .entry)) at) ⌝ }
 {
     if s.len() < at + 24 {
@@ -89,7 +132,7 @@ fn condition_there(s: &[u8], at: usize) -> bool
 }
 
 // Whether a condition's value and mask have no more bits than it looks at.
-pub fn fits_width(q: Condition) -> bool
+fn fits_width(q: Condition) -> bool
     ensures { λ r. ⌜ r ≡ fitsWidth q ⌝ }
 {
     let width = q.width;
@@ -99,14 +142,30 @@ pub fn fits_width(q: Condition) -> bool
     }
 }
 
-fn scan_conditions(s: &[u8], n: u32, from: usize) -> Scan
-    requires { ⌜ (from ≤ length (now s)) × (length (now s) ≤ 1048576) ⌝ }
-    ensures { λ r. ⌜ Scanned (conditionsScan 0 1 true true (times (conditionAt (now (s .entry))) n from)) from (length (now (s .entry))) r ⌝ }
+// What is wrong with a condition: its number and place, noted behind what was found so far.
+fn condition_fault(found: Fault, q: Condition, entry: u32, rule: u32, condition: u32) -> Fault
+    ensures { λ r. ⌜ r ≡ leastOf found (conditionFaults entry rule condition q) ⌝ }
 {
-    let mut count: usize = 0;
+    let index = note(found, q.index <= 5, fault(5, entry, rule, condition));
+    note(index, fits_width(q), fault(8, entry, rule, condition))
+}
+
+// n conditions of a rule.
+fn scan_conditions(
+    s: &[u8],
+    n: u32,
+    from: usize,
+    entry: u32,
+    rule: u32,
+    before: usize,
+    found: Fault,
+) -> Scan
+    requires { ⌜ (from ≤ length (now s)) × (length (now s) ≤ mostBytes) × (before ≤ from) ⌝ }
+    ensures { λ r. ⌜ Scanned (told (tells (tellCondition entry rule) 0) (times (conditionAt (now (s .entry))) n from) (conditionsStart before found)) (length (now (s .entry))) r ⌝ }
+{
+    let mut count = before;
+    let mut fault = found;
     let mut distance: u8 = 1;
-    let mut indexed = true;
-    let mut fitted = true;
     let mut at = from;
     let mut left = n;
     while left != 0 {
@@ -117,65 +176,46 @@ fn scan_conditions(s: &[u8], n: u32, from: usize) -> Scan
         let step = rule::step_length(q, distance);
         count = count + step.count;
         distance = step.distance;
-        indexed = both(indexed, q.index <= 5);
-        fitted = both(fitted, fits_width(q));
-        at = at + 24;
+        fault = condition_fault(fault, q, entry, rule, n - left);
+        at = at + CONDITION_SIZE;
         left = left - 1;
     }
     Scan {
         ok: true,
         past: at,
         count: count,
-        filled: true,
-        indexed: indexed,
-        fitted: fitted,
-        ascending: true,
+        fault: fault,
     }
 }
 
-fn scan_rule(s: &[u8], at: usize) -> Scan
-    requires { ⌜ (at ≤ length (now s)) × (length (now s) ≤ 1048576) ⌝ }
-    ensures { λ r. ⌜ Scanned (ruleScan (ruleAt (now (s .entry)) at)) at (length (now (s .entry))) r ⌝ }
+fn scan_rule(s: &[u8], at: usize, entry: u32, rule: u32, before: usize, found: Fault) -> Scan
+    requires { ⌜ (at ≤ length (now s)) × (length (now s) ≤ mostBytes) × (before ≤ at) ⌝ }
+    ensures { λ r. ⌜ Scanned (told (tellRule entry rule) (ruleAt (now (s .entry)) at) (total before found)) (length (now (s .entry))) r ⌝ }
 {
-    if s.len() < at + 4 {
+    if s.len() < at + RULE_SIZE {
         return not_there();
     }
     let n = bpf::u32_at(s, at);
-    let conditions = scan_conditions(s, n, at + 4);
-    if !conditions.ok {
-        return not_there();
-    }
+    let empty = note(found, n != 0, fault(4, entry, rule, NOWHERE));
     // two jumps in front of the conditions, and the return behind them
-    Scan {
-        ok: true,
-        past: conditions.past,
-        count: conditions.count + 3,
-        filled: n != 0,
-        indexed: conditions.indexed,
-        fitted: conditions.fitted,
-        ascending: true,
-    }
+    scan_conditions(s, n, at + RULE_SIZE, entry, rule, before + 3, empty)
 }
 
-fn scan_rules(s: &[u8], n: u32, from: usize) -> Scan
-    requires { ⌜ (from ≤ length (now s)) × (length (now s) ≤ 1048576) ⌝ }
-    ensures { λ r. ⌜ Scanned (rulesScan 0 true true true (times (ruleAt (now (s .entry))) n from)) from (length (now (s .entry))) r ⌝ }
+fn scan_rules(s: &[u8], n: u32, from: usize, entry: u32, before: usize, found: Fault) -> Scan
+    requires { ⌜ (from ≤ length (now s)) × (length (now s) ≤ mostBytes) × (before ≤ from) ⌝ }
+    ensures { λ r. ⌜ Scanned (told (tells (tellRule entry) 0) (times (ruleAt (now (s .entry))) n from) (total before found)) (length (now (s .entry))) r ⌝ }
 {
-    let mut count: usize = 0;
-    let mut filled = true;
-    let mut indexed = true;
-    let mut fitted = true;
+    let mut count = before;
+    let mut fault = found;
     let mut at = from;
     let mut left = n;
     while left != 0 {
-        let rule = scan_rule(s, at);
+        let rule = scan_rule(s, at, entry, n - left, count, fault);
         if !rule.ok {
             return not_there();
         }
-        count = count + rule.count;
-        filled = both(filled, rule.filled);
-        indexed = both(indexed, rule.indexed);
-        fitted = both(fitted, rule.fitted);
+        count = rule.count;
+        fault = rule.fault;
         at = rule.past;
         left = left - 1;
     }
@@ -183,44 +223,18 @@ fn scan_rules(s: &[u8], n: u32, from: usize) -> Scan
         ok: true,
         past: at,
         count: count,
-        filled: filled,
-        indexed: indexed,
-        fitted: fitted,
-        ascending: true,
+        fault: fault,
     }
 }
 
-// An entry without rules has three instructions where the others have their rules.
-pub fn body_length(n: u32, rules: usize) -> usize
-    ensures { λ r. ⌜ r ≡ bodyOr n rules ⌝ }
+// How many instructions an entry with n rules has beside them: a comparison and a return, and three for no rules.
+fn around_rules(n: u32) -> usize
+    ensures { λ r. ⌜ (r ≡ cond (eqb n 0) 5 2) × (r ≤ 5) ⌝ }
 {
-    if n != 0 {
-        return rules;
+    if n == 0 {
+        return 5;
     }
-    3
-}
-
-fn scan_entry(s: &[u8], at: usize) -> Scan
-    requires { ⌜ (at ≤ length (now s)) × (length (now s) ≤ 1048576) ⌝ }
-    ensures { λ r. ⌜ Scanned (entryScan (entryAt (now (s .entry)) at)) at (length (now (s .entry))) r ⌝ }
-{
-    if s.len() < at + 8 {
-        return not_there();
-    }
-    let n = bpf::u32_at(s, at + 4);
-    let rules = scan_rules(s, n, at + 8);
-    if !rules.ok {
-        return not_there();
-    }
-    Scan {
-        ok: true,
-        past: rules.past,
-        count: body_length(n, rules.count) + 2,
-        filled: rules.filled,
-        indexed: rules.indexed,
-        fitted: rules.fitted,
-        ascending: true,
-    }
+    2
 }
 
 // The call number as a number that has room for one more.
@@ -232,21 +246,20 @@ fn number_at(s: &[u8], at: usize) -> u64
     n as u64
 }
 
-// What a turn of the walk over entries found: as a scan, and how many entries are left, and the least number that may come next.
+// What a turn of the walk over entries found: as a scan, and how many entries are left, the least number that may come next, and how
+// many entries are short enough.
 pub struct Turn {
     pub ok: bool,
     pub left: u32,
     pub least: u64,
     pub past: usize,
     pub count: usize,
-    pub filled: bool,
-    pub indexed: bool,
-    pub fitted: bool,
-    pub ascending: bool,
+    pub fits: u32,
+    pub fault: Fault,
 }
 
 fn no_turn() -> Turn
-    ensures { λ r. ⌜ r .ok ≡ false ⌝ }
+    ensures { λ r. ⌜ r ≡ noTurn ⌝ }
 {
     Turn {
         ok: false,
@@ -254,22 +267,31 @@ fn no_turn() -> Turn
         least: 0,
         past: 0,
         count: 0,
-        filled: false,
-        indexed: false,
-        fitted: false,
-        ascending: false,
+        fits: 0,
+        fault: fault(0, NOWHERE, NOWHERE, NOWHERE),
     }
+}
+
+// How many of the entries are short enough, with this one, which is followed by `left`, and the instructions up to it.
+fn fitting(all: u32, left: u32, fits: u32, count: usize) -> u32
+    requires { ⌜ left ≤ all ⌝ }
+    ensures { λ r. ⌜ r ≡ cond (ltb count answers.tooMany) (all - left) fits ⌝ }
+{
+    if count < TOO_MANY {
+        return all - left;
+    }
+    fits
 }
 
 // Whether an entry is left, and it has no rules.
 fn plain_there(s: &[u8], left: u32, at: usize) -> bool
-    requires { ⌜ (at ≤ length (now s)) × (length (now s) ≤ 1048576) ⌝ }
+    requires { ⌜ (at ≤ length (now s)) × (length (now s) ≤ mostBytes) ⌝ }
     ensures { λ r. ⌜ r ≡ plainThere (now (s .entry)) left at ⌝ }
 {
     if left == 0 {
         return false;
     }
-    if s.len() < at + 8 {
+    if s.len() < at + ENTRY_SIZE {
         return false;
     }
     let rules = bpf::u32_at(s, at + 4);
@@ -278,22 +300,37 @@ fn plain_there(s: &[u8], left: u32, at: usize) -> bool
 
 // Entries without rules, as many as stand one behind the other. They are most of most sets, so they have a loop of their own, which
 // carries little.
-fn scan_plain(s: &[u8], n: u32, from: usize, first: u64) -> Turn
-    requires { ⌜ (from ≤ length (now s)) × (length (now s) ≤ 1048576) × (plainThere (now s) n from ≡ true) ⌝ }
-    ensures { λ r. ⌜ Turned (now (s .entry)) n from first r ⌝ }
+fn scan_plain(
+    s: &[u8],
+    all: u32,
+    n: u32,
+    from: usize,
+    first: u64,
+    before: usize,
+    fitted: u32,
+    found: Fault,
+) -> Turn
+    requires { ⌜ (from ≤ length (now s)) × (length (now s) ≤ mostBytes) × (before ≤ from) × (n ≤ all) × (plainThere (now s) n from ≡ true) ⌝ }
+    ensures { λ r. ⌜ Turned (now (s .entry)) all n from (sum before first fitted found) r ⌝ }
 {
-    let mut ascending = true;
-    let mut count: usize = 0;
+    let mut count = before;
+    let mut fits = fitted;
+    let mut fault = found;
     let mut least = first;
     let mut at = from;
     let mut left = n;
     while plain_there(s, left, at) {
         let number = number_at(s, at);
-        ascending = both(ascending, least <= number);
+        fault = note(
+            fault,
+            least <= number,
+            crate::fault(2, all - left, NOWHERE, NOWHERE),
+        );
         least = number + 1;
         count = count + 5;
-        at = at + 8;
+        at = at + ENTRY_SIZE;
         left = left - 1;
+        fits = fitting(all, left, fits, count);
     }
     Turn {
         ok: true,
@@ -301,74 +338,107 @@ fn scan_plain(s: &[u8], n: u32, from: usize, first: u64) -> Turn
         least: least,
         past: at,
         count: count,
-        filled: true,
-        indexed: true,
-        fitted: true,
-        ascending: ascending,
+        fits: fits,
+        fault: fault,
+    }
+}
+
+// The entry with rules that stands at a place, the first of the last n.
+fn scan_ruled(
+    s: &[u8],
+    all: u32,
+    n: u32,
+    at: usize,
+    least: u64,
+    before: usize,
+    fitted: u32,
+    found: Fault,
+) -> Turn
+    requires { ⌜ (at ≤ length (now s)) × (length (now s) ≤ mostBytes) × (before ≤ at) × (n ≤ all) × (n ≡ 0 → ⊥) ⌝ }
+    ensures { λ r. ⌜ Turned (now (s .entry)) all n at (sum before least fitted found) r ⌝ }
+{
+    if s.len() < at + ENTRY_SIZE {
+        return no_turn();
+    }
+    let number = number_at(s, at);
+    let order = note(found, least <= number, fault(2, all - n, NOWHERE, NOWHERE));
+    let rules = bpf::u32_at(s, at + 4);
+    let scan = scan_rules(
+        s,
+        rules,
+        at + ENTRY_SIZE,
+        all - n,
+        before + around_rules(rules),
+        order,
+    );
+    if !scan.ok {
+        return no_turn();
+    }
+    let left = n - 1;
+    let fault = scan.fault;
+    Turn {
+        ok: true,
+        left: left,
+        least: number + 1,
+        past: scan.past,
+        count: scan.count,
+        fits: fitting(all, left, fitted, scan.count),
+        fault: fault,
     }
 }
 
 // The entries without rules that stand at a place; or the one with rules.
-fn scan_turn(s: &[u8], left: u32, at: usize, least: u64) -> Turn
-    requires { ⌜ (at ≤ length (now s)) × (length (now s) ≤ 1048576) × (left ≡ 0 → ⊥) ⌝ }
-    ensures { λ r. ⌜ Turned (now (s .entry)) left at least r ⌝ }
+fn scan_turn(
+    s: &[u8],
+    all: u32,
+    n: u32,
+    at: usize,
+    least: u64,
+    before: usize,
+    fitted: u32,
+    found: Fault,
+) -> Turn
+    requires { ⌜ (at ≤ length (now s)) × (length (now s) ≤ mostBytes) × (before ≤ at) × (n ≤ all) × (n ≡ 0 → ⊥) ⌝ }
+    ensures { λ r. ⌜ Turned (now (s .entry)) all n at (sum before least fitted found) r ⌝ }
 {
-    if plain_there(s, left, at) {
-        return scan_plain(s, left, at, least);
+    if plain_there(s, n, at) {
+        return scan_plain(s, all, n, at, least, before, fitted, found);
     }
-    let entry = scan_entry(s, at);
-    if !entry.ok {
-        return no_turn();
-    }
-    let number = number_at(s, at);
-    Turn {
-        ok: true,
-        left: left - 1,
-        least: number + 1,
-        past: entry.past,
-        count: entry.count,
-        filled: entry.filled,
-        indexed: entry.indexed,
-        fitted: entry.fitted,
-        ascending: least <= number,
-    }
+    scan_ruled(s, all, n, at, least, before, fitted, found)
 }
 
-fn scan_entries(s: &[u8], n: u32, from: usize) -> Scan
-    requires { ⌜ (from ≤ length (now s)) × (length (now s) ≤ 1048576) ⌝ }
-    ensures { λ r. ⌜ Scanned (entriesScan 0 true true true true 0 (times (entryAt (now (s .entry))) n from)) from (length (now (s .entry))) r ⌝ }
+// All n entries.
+fn scan_entries(s: &[u8], n: u32, before: usize, found: Fault) -> Turn
+    requires { ⌜ (16 ≤ length (now s)) × (length (now s) ≤ mostBytes) × (before ≤ 16) ⌝ }
+    ensures { λ r. ⌜ (r ≡ turnOf (entriesTold (now (s .entry)) n n 16 (sum before 0 0 found))) × (r .ok ≡ true → r .count ≤ mostBytes) ⌝ }
 {
-    let mut count: usize = 0;
-    let mut filled = true;
-    let mut indexed = true;
-    let mut fitted = true;
-    let mut ascending = true;
+    let mut count = before;
+    let mut fits: u32 = 0;
+    let mut fault = found;
     // the least number that may come next
     let mut least: u64 = 0;
-    let mut at = from;
+    let mut at = HEAD_SIZE;
     let mut left = n;
     while left != 0 {
-        let turn = scan_turn(s, left, at, least);
+        let turn = scan_turn(s, n, left, at, least, count, fits, fault);
         if !turn.ok {
-            return not_there();
+            return no_turn();
         }
-        count = count + turn.count;
-        filled = both(filled, turn.filled);
-        indexed = both(indexed, turn.indexed);
-        fitted = both(fitted, turn.fitted);
-        ascending = both(ascending, turn.ascending);
+        count = turn.count;
+        fits = turn.fits;
+        fault = turn.fault;
         least = turn.least;
         at = turn.past;
         left = turn.left;
     }
-    Scan {
+    Turn {
         ok: true,
+        left: 0,
+        least: least,
         past: at,
         count: count,
-        filled: filled,
-        indexed: indexed,
-        fitted: fitted,
-        ascending: ascending,
+        fits: fits,
+        fault: fault,
     }
 }
 
@@ -415,90 +485,63 @@ fn head_there(s: &[u8]) -> bool
     is_action(bpf::u32_at(s, 8))
 }
 
-// The whole walk.
-fn scan_set(s: &[u8]) -> Scan
-    ensures { λ r. ⌜ (r ≡ setScan (length (now (s .entry))) (read (now (s .entry)))) × (r .count ≤ 1048581) ⌝ }
+// What is said of a set whatever it is for: its least fault, 1 where it is not of the format; how many instructions its filter has; and
+// the first entry with which that is too long.
+pub struct Judged {
+    pub fault: Fault,
+    pub count: usize,
+    pub long: u32,
+}
+
+fn no_set() -> Judged
+    ensures { λ r. ⌜ r ≡ judged none ⌝ }
 {
-    let size = s.len();
-    if 1048576 < size {
-        return not_there();
-    }
-    if size < 16 {
-        return not_there();
-    }
-    if !head_there(s) {
-        return not_there();
-    }
-    let n = bpf::u32_at(s, 12);
-    let entries = scan_entries(s, n, 16);
-    if !entries.ok {
-        return not_there();
-    }
-    if entries.past != size {
-        return not_there();
-    }
-    let head = head::head_length(bpf::u32_at(s, 0), n);
-    // the head in front of the entries, and the return behind them
-    Scan {
-        ok: true,
-        past: size,
-        count: head + entries.count + 1,
-        filled: entries.filled,
-        indexed: entries.indexed,
-        fitted: entries.fitted,
-        ascending: entries.ascending,
+    Judged {
+        fault: fault(1, NOWHERE, NOWHERE, NOWHERE),
+        count: 0,
+        long: 0,
     }
 }
 
-// Whether a set's two actions are one.
-fn same_actions(s: &[u8]) -> bool
+// Whether a set's two actions are two.
+fn actions_differ(s: &[u8]) -> bool
     requires { ⌜ 16 ≤ length (now s) ⌝ }
-    ensures { λ r. ⌜ r ≡ eqb (numberAt 4 (now (s .entry)) 4) (numberAt 4 (now (s .entry)) 8) ⌝ }
+    ensures { λ r. ⌜ r ≡ not (eqb (numberAt 4 (now (s .entry)) 4) (numberAt 4 (now (s .entry)) 8)) ⌝ }
 {
     let mismatch = bpf::u32_at(s, 4);
     let on_match = bpf::u32_at(s, 8);
-    mismatch == on_match
-}
-
-// What is refused in a set of the format, by what the walk found.
-fn refusal(s: &[u8], found: Scan) -> u32
-    requires { ⌜ 16 ≤ length (now s) ⌝ }
-    ensures { λ r. ⌜ r ≡ refusalFrom found (eqb (numberAt 4 (now (s .entry)) 4) (numberAt 4 (now (s .entry)) 8)) ⌝ }
-{
-    if !found.ascending {
-        return 2;
-    }
-    if same_actions(s) {
-        return 3;
-    }
-    if !found.filled {
-        return 4;
-    }
-    if !found.indexed {
-        return 5;
-    }
-    if !found.fitted {
-        return 8;
-    }
-    0
-}
-
-// What is said of a set whatever it is for: 1 where it is not of the format, the smallest of 2 to 5 and 8 where something in it is
-// refused, else 0; and how many instructions its filter has.
-pub struct Judged {
-    pub code: u32,
-    pub count: usize,
+    mismatch != on_match
 }
 
 pub fn judge(s: &[u8]) -> Judged
-    ensures { λ r. ⌜ (r ≡ judged (read (now (s .entry)))) × (r .count ≤ 1048581) ⌝ }
+    ensures { λ r. ⌜ (r ≡ judged (read (now (s .entry)))) × (r .count ≤ mostBytes) ⌝ }
 {
-    let found = scan_set(s);
-    if !found.ok {
-        return Judged { code: 1, count: 0 };
+    let size = s.len();
+    if MOST_BYTES < size {
+        return no_set();
     }
+    if size < HEAD_SIZE {
+        return no_set();
+    }
+    if !head_there(s) {
+        return no_set();
+    }
+    let n = bpf::u32_at(s, 12);
+    // the head in front of the entries, and the return behind them
+    let around = head::head_length(bpf::u32_at(s, 0), n) + 1;
+    let none = fault(0, NOWHERE, NOWHERE, NOWHERE);
+    let same = note(none, actions_differ(s), fault(3, NOWHERE, NOWHERE, NOWHERE));
+    let entries = scan_entries(s, n, around, same);
+    if !entries.ok {
+        return no_set();
+    }
+    if entries.past != size {
+        return no_set();
+    }
+    let fault = entries.fault;
     Judged {
-        code: refusal(s, found),
-        count: found.count,
+        fault: fault,
+        count: entries.count,
+        long: entries.fits,
     }
 }

@@ -10,7 +10,7 @@ ghost use Rattle.definitions.specs.Machine.{filterBytes};
 ghost use Rattle.definitions.specs.Emitted as emitted;
 ghost use Rattle.definitions.specs.Emitted.{bodyCode, entryCode, entriesCode};
 ghost use Rattle.bpf.specs.Place.{place, Writing};
-ghost use Rattle.set_view.specs.Parts.{entriesHere, entriesPast, entryHere, entryPast, plainHere, rulesHere, rulesPast, setHere};
+ghost use Rattle.set_view.specs.Parts.{Reach, Readable, entriesHere, entriesPast, entryHere, entryPast, plainHere, rulesHere, rulesPast, setHere};
 use bpf::give;
 use bpf::if_equal;
 use bpf::jump_by;
@@ -28,7 +28,7 @@ fn put_always(out: &mut [u8], at: usize, m: u32)
 
 // Writes the n rules of an entry at a place. Match action m.
 fn put_body(out: &mut [u8], s: &[u8], n: u32, from: usize, at: usize, m: u32) -> Written
-    requires { ⌜ (rulesPast (now s) n from ≤ length (now s)) × (length (now s) ≤ 1048576) ⌝ }
+    requires { ⌜ Reach (now s) (rulesPast (now s) n from) ⌝ }
     requires { ⌜ at + 8 * length (bodyCode m (rulesHere (now s) n from)) ≤ length (now out) ⌝ }
     ensures { λ r. ⌜ (now (out .exit) ≡ place (now (out .entry)) at (filterBytes (bodyCode m (rulesHere (now (s .entry)) n from))))
         × (r .end ≡ at + 8 * length (bodyCode m (rulesHere (now (s .entry)) n from)))
@@ -46,7 +46,7 @@ fn put_body(out: &mut [u8], s: &[u8], n: u32, from: usize, at: usize, m: u32) ->
 
 // Writes an entry at a place. Match action m, mismatch action d.
 fn put_entry(out: &mut [u8], s: &[u8], from: usize, at: usize, m: u32, d: u32) -> Written
-    requires { ⌜ (entryPast (now s) from ≤ length (now s)) × (length (now s) ≤ 1048576) ⌝ }
+    requires { ⌜ Reach (now s) (entryPast (now s) from) ⌝ }
     requires { ⌜ at + 8 * length (entryCode m d (entryHere (now s) from)) ≤ length (now out) ⌝ }
     ensures { λ r. ⌜ (now (out .exit) ≡ place (now (out .entry)) at (filterBytes (entryCode m d (entryHere (now (s .entry)) from))))
         × (r .end ≡ at + 8 * length (entryCode m d (entryHere (now (s .entry)) from)))
@@ -130,7 +130,7 @@ fn put_turn(out: &mut [u8], s: &[u8], n: u32, from: usize, at: usize, m: u32, d:
 
 // Writes n entries at a place, and answers the place behind them. Match action m, mismatch action d.
 fn put_entries(out: &mut [u8], s: &[u8], n: u32, from: usize, at: usize, m: u32, d: u32) -> usize
-    requires { ⌜ (entriesPast (now s) n from ≤ length (now s)) × (length (now s) ≤ 1048576) ⌝ }
+    requires { ⌜ Reach (now s) (entriesPast (now s) n from) ⌝ }
     requires { ⌜ at + 8 * length (entriesCode m d (entriesHere (now s) n from)) ≤ length (now out) ⌝ }
     ensures { λ r. ⌜ (now (out .exit) ≡ place (now (out .entry)) at (filterBytes (entriesCode m d (entriesHere (now (s .entry)) n from))))
         × (r ≡ at + 8 * length (entriesCode m d (entriesHere (now (s .entry)) n from))) ⌝ }
@@ -149,7 +149,7 @@ fn put_entries(out: &mut [u8], s: &[u8], n: u32, from: usize, at: usize, m: u32,
 
 // Writes the filter of a rule set at the buffer's start.
 pub fn put_filter(out: &mut [u8], s: &[u8])
-    requires { ⌜ (16 ≤ length (now s)) × (length (now s) ≤ 1048576) × (entriesPast (now s) (numberAt 4 (now s) 12) 16 ≤ length (now s)) ⌝ }
+    requires { ⌜ Readable (now s) ⌝ }
     requires { ⌜ 8 * length (emitted.emitted (setHere (now s))) ≤ length (now out) ⌝ }
     ensures { λ _. ⌜ now (out .exit) ≡ place (now (out .entry)) 0 (filterBytes (emitted.emitted (setHere (now (s .entry))))) ⌝ }
 {

@@ -14,7 +14,7 @@ ghost use Rattle.bpf.specs.Place.{place, placeBefore};
 ghost use Rattle.search_form.specs.Search.{singles, away, nearPlace, nearReturn, leaf, toMismatch, plant, Comparison, compareFirst, endsBy, upTo, link, chain, grow, searchForm};
 ghost use Rattle.search_bodies.specs.Here.{bodiesHere};
 ghost use Rattle.spans.specs.Spans.{spansFrom, spanOf, destination, Stands};
-ghost use Rattle.set_view.specs.Parts.{entriesPast, setHere};
+ghost use Rattle.set_view.specs.Parts.{Readable, entriesPast, setHere};
 ghost use Rattle.search_writer.specs.Forms.{Ends, Reaches, Ready, Grew, Makes, toReturn, openIf, codeOf, plantedHere};
 use definitions::Instruction;
 use spans::Cursor;
@@ -360,7 +360,7 @@ fn put_searched(out: &mut [u8], s: &[u8], n: u32, count: usize)
 
 // How many instructions the search form of a rule set has.
 pub fn search_length(s: &[u8]) -> usize
-    requires { ⌜ (16 ≤ length (now s)) × (length (now s) ≤ 1048576) × (entriesPast (now s) (numberAt 4 (now s) 12) 16 ≤ length (now s)) ⌝ }
+    requires { ⌜ Readable (now s) ⌝ }
     ensures { λ r. ⌜ r ≡ length (searchForm (setHere (now (s .entry)))) ⌝ }
 {
     let n = bpf::u32_at(s, 12);
@@ -372,7 +372,7 @@ pub fn search_length(s: &[u8]) -> usize
 
 // Writes the search form of a rule set at the buffer's start. It has `count` instructions.
 pub fn put_search(out: &mut [u8], s: &[u8], count: usize)
-    requires { ⌜ (16 ≤ length (now s)) × (length (now s) ≤ 1048576) × (entriesPast (now s) (numberAt 4 (now s) 12) 16 ≤ length (now s)) ⌝ }
+    requires { ⌜ Readable (now s) ⌝ }
     requires { ⌜ (count ≡ length (searchForm (setHere (now s)))) × (8 * count ≤ length (now out)) ⌝ }
     ensures { λ _. ⌜ now (out .exit) ≡ place (now (out .entry)) 0 (filterBytes (searchForm (setHere (now (s .entry))))) ⌝ }
 {

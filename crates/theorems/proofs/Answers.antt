@@ -1,100 +1,224 @@
--- What an answer says of the rule set: 0 is given only to a set of the format in which nothing is refused and whose filter is short
--- enough for the limit and for the buffer.
+-- What an answer says of the rule set: 0 is given only to a set of the format that has no fault, and whose filter is short enough for the
+-- limit and for the buffer; and which numbers answers have.
 use mathlib.Core.Path.{_≡_, refl, ap, sym, _∙_}
-use mathlib.Core.Bool.{Bool, true, false, cond, not}
-use mathlib.Core.List.{List}
+use mathlib.Core.Bool.{Bool, true, false, not, _||_}
+use mathlib.Core.List.{List, [], _∷_, _++_}
 use mathlib.Core.Option.{Option, none, some}
-use Prim.Native.Nat.{ℕ, _*_, _≤_, _<_}
+use Prim.Native.Nat.{ℕ, suc, _+_, _*_, _≤_, _<_}
 use native.Mathlib.Omega.{arith}
 use lib.Dec.{eqb, leb, ltb}
-use borrow.Author.Tests.{leb-false, ltb-false, not-false}
+use borrow.Author.Tests.{eq-eqb, ne-eqb, eqb-true, leb-true, ltb-true, not-false, not-true}
+use Rattle.definitions.specs.declared.Condition.{Condition}
 use Rattle.definitions.specs.declared.Fault.{Fault}
 use Rattle.definitions.specs.declared.Answer.{Answer}
-use Rattle.definitions.specs.RuleSet.{RuleSet}
+use Rattle.definitions.specs.RuleSet.{Rule, Entry, RuleSet, oneOf}
 use Rattle.definitions.specs.Format.{read}
-use Rattle.definitions.specs.Answer.{ascending, rulesFilled, indicesTaken, widthsFit, tooMany, noFault, faultOf, tooLong, answer, codeWith, refusal, emittedSize, answerWith, answerBy, answerOf}
+use Rattle.definitions.specs.Answer.{indexTaken, fitsWidth, hasConditions, fault, nowhere, placeless, noFault, unless, faultsOf, conditionFaults, ruleFaults, entriesFaults, setFaults, tooMany, filterFaults, leastOf, refusal, answer, emittedSize, tooLong, answerBy, answerOf, ascending, rulesFilled, indicesTaken, widthsFit}
+use Rattle.theorems.proofs.Tests.{either-true}
+use Rattle.theorems.proofs.Faults.{least-append, least-none, least-first, has, firstOf, has-append, Among, among-append, among-unless, among-parts, Numbered, index-row, width-row, rule-row, empty-row, order-faults, rule-faults}
+
+-- ---- which numbers there are
+
+or-true : (a : Bool) → (a || true) ≡ true
+or-true true = refl
+or-true false = refl
+
+abbrev pub entryCodes : List ℕ
+entryCodes = 2 ∷ 4 ∷ 5 ∷ 8 ∷ []
+
+abbrev pub setCodes : List ℕ
+setCodes = 3 ∷ entryCodes
+
+condition-codes : (e r c : ℕ) (q : Condition) → Among entryCodes (conditionFaults e r c q)
+unfolding conditionFaults oneOf
+condition-codes e r c q =
+    among-append entryCodes (unless (indexTaken q) (fault 5 e r c)) (unless (fitsWidth q) (fault 8 e r c)) (among-unless entryCodes (indexTaken q) (fault 5 e r c) refl) (among-unless entryCodes (fitsWidth q) (fault 8 e r c) refl)
+
+rule-codes : (e r : ℕ) (qs : Rule) → Among entryCodes (ruleFaults e r qs)
+unfolding ruleFaults oneOf
+rule-codes e r qs =
+    among-append entryCodes (unless (hasConditions qs) (fault 4 e r nowhere)) (faultsOf (conditionFaults e r) 0 qs) (among-unless entryCodes (hasConditions qs) (fault 4 e r nowhere) refl) (among-parts entryCodes (conditionFaults e r) 0 qs (condition-codes e r))
+
+entries-codes : (l e : ℕ) (es : List Entry) → Among entryCodes (entriesFaults l e es)
+unfolding entriesFaults oneOf
+entries-codes l e [] = tt
+entries-codes l e (x ∷ xs) =
+    among-append entryCodes (unless (leb l (x .number)) (fault 2 e nowhere nowhere)) (faultsOf (ruleFaults e) 0 (x .rules) ++ entriesFaults (x .number + 1) (suc e) xs) (among-unless entryCodes (leb l (x .number)) (fault 2 e nowhere nowhere) refl)
+    (among-append entryCodes (faultsOf (ruleFaults e) 0 (x .rules)) (entriesFaults (x .number + 1) (suc e) xs) (among-parts entryCodes (ruleFaults e) 0 (x .rules) (rule-codes e)) (entries-codes (x .number + 1) (suc e) xs))
+
+-- with one number more
+among-more : (k : ℕ) (ks : List ℕ) (fs : List Fault) → Among ks fs → Among (k ∷ ks) fs
+unfolding oneOf
+among-more k ks [] a = tt
+among-more k ks (f ∷ fs) a = (rw (a .0) (or-true (eqb (f .code) k)), among-more k ks fs (a .1))
+
+set-codes : (rs : RuleSet) → Among setCodes (setFaults rs)
+unfolding setFaults oneOf
+set-codes rs =
+    among-append setCodes (unless (not (eqb (rs .mismatch) (rs .onMatch))) (placeless 3)) (entriesFaults 0 0 (rs .entries))
+    (among-unless setCodes (not (eqb (rs .mismatch) (rs .onMatch))) (placeless 3) refl) (among-more 3 entryCodes (entriesFaults 0 0 (rs .entries)) (entries-codes 0 0 (rs .entries)))
+
+pub filter-codes : (n long room : ℕ) → Among (6 ∷ 7 ∷ []) (filterFaults n long room)
+unfolding filterFaults oneOf
+filter-codes n long room =
+    among-append (6 ∷ 7 ∷ []) (unless (ltb n tooMany) (fault 6 long nowhere nowhere)) (unless (leb (8 * n) room) (placeless 7)) (among-unless (6 ∷ 7 ∷ []) (ltb n tooMany) (fault 6 long nowhere nowhere) refl) (among-unless (6 ∷ 7 ∷ []) (leb (8 * n) room) (placeless 7) refl)
+
+other : (ks : List ℕ) (a b : ℕ) → oneOf ks a ≡ true → oneOf ks b ≡ false → a ≡ b → ⊥
+other ks a b p q e = let z : _≡_ {A = ℕ} 0 1 = cc in omega arith
+
+pub numbered : (ks : List ℕ) (fs : List Fault) → oneOf ks 0 ≡ false → Among ks fs → Numbered fs
+numbered ks [] z a = tt
+numbered ks (f ∷ fs) z a = (let n = other ks (f .code) 0 (a .0) z in omega arith, numbered ks fs z (a .1))
+
+pub lacks : (ks : List ℕ) (fs : List Fault) (k : ℕ) → oneOf ks k ≡ false → Among ks fs → has k fs ≡ false
+unfolding has
+lacks ks [] k z a = refl
+lacks ks (f ∷ fs) k z a = rw (ne-eqb (f .code) k (other ks (f .code) k (a .0) z)) (lacks ks fs k z (a .1))
+
+pub set-lacks : (rs : RuleSet) (k : ℕ) → oneOf setCodes k ≡ false → has k (setFaults rs) ≡ false
+set-lacks rs k z = lacks setCodes (setFaults rs) k z (set-codes rs)
+
+pub entries-lack : (k : ℕ) → oneOf entryCodes k ≡ false → (es : List Entry) → has k (entriesFaults 0 0 es) ≡ false
+entries-lack k z es = lacks entryCodes (entriesFaults 0 0 es) k z (entries-codes 0 0 es)
+
+both-numbered : (xs ys : List Fault) → Numbered xs → Numbered ys → Numbered (xs ++ ys)
+both-numbered [] ys a b = b
+both-numbered (x ∷ xs) ys a b = (a .0, both-numbered xs ys (a .1) b)
+
+pub set-numbered : (rs : RuleSet) → Numbered (setFaults rs)
+set-numbered rs = numbered setCodes (setFaults rs) (unfold oneOf in refl) (set-codes rs)
+
+pub filter-numbered : (n long room : ℕ) → Numbered (filterFaults n long room)
+filter-numbered n long room = numbered (6 ∷ 7 ∷ []) (filterFaults n long room) (unfold oneOf in refl) (filter-codes n long room)
+
+-- ---- all faults of a set and its filter
+
+module _ (n long : ℕ) (rs : RuleSet) (room : ℕ) where
+  abbrev pub allFaults : List Fault
+  allFaults = setFaults rs ++ filterFaults n long room
+
+  pub all-least : leastOf (refusal rs) (filterFaults n long room) ≡ leastOf noFault allFaults
+  all-least = sym (least-append noFault (setFaults rs) (filterFaults n long room))
+
+  pub all-numbered : Numbered allFaults
+  all-numbered = both-numbered (setFaults rs) (filterFaults n long room) (set-numbered rs) (filter-numbered n long room)
+
+-- an answer has the number of a fault, or 0
+pub answered-by : (n long : ℕ) (rs : RuleSet) (room k : ℕ) → leastOf (refusal rs) (filterFaults n long room) .code ≡ k → (0 ≡ k → ⊥)
+    → (has k (allFaults n long rs room) ≡ true) × (leastOf (refusal rs) (filterFaults n long room) ≡ firstOf k (allFaults n long rs room))
+answered-by n long rs room k e h =
+    rw (all-least n long rs room)
+    (least-first k noFault (allFaults n long rs room) (all-numbered n long rs room) (rw (all-least n long rs room) at e) h)
+
+-- ---- nothing is refused
+
+no-both : (xs ys : List Fault) → xs ++ ys ≡ [] → (xs ≡ []) × (ys ≡ [])
+no-both [] ys e = (refl, e)
+no-both (x ∷ xs) ys e = absurd (let z : _≡_ {A = ℕ} 0 1 = cc in omega arith)
+
+no-unless : (t : Bool) (f : Fault) → unless t f ≡ [] → t ≡ true
+unfolding unless
+no-unless true f e = refl
+no-unless false f e = cc
+
+not-refused : (rs : RuleSet) → refusal rs .code ≡ 0 → setFaults rs ≡ []
+not-refused rs e = least-none (setFaults rs) (set-numbered rs) e
+
+passed : (rs : RuleSet) (k : ℕ) (t : Bool) → refusal rs .code ≡ 0 → has k (setFaults rs) ≡ not t → t ≡ true
+passed rs k t e h = not-false t (sym h ∙ (unfold has in rw (not-refused rs e)))
+
+pub ascending-entries : (rs : RuleSet) → refusal rs .code ≡ 0 → ascending (rs .entries) ≡ true
+ascending-entries rs e = passed rs 2 _ e (order-faults rs)
+
+pub indices-taken : (rs : RuleSet) → refusal rs .code ≡ 0 → indicesTaken rs ≡ true
+indices-taken rs e = passed rs 5 _ e (rule-faults rs (rule-row index-row refl) refl refl)
+
+-- a list that has none of its numbers is empty
+none-of : (ks : List ℕ) (fs : List Fault) → Among ks fs → ((k : ℕ) → oneOf ks k ≡ true → has k fs ≡ false) → fs ≡ []
+unfolding has
+none-of ks [] a h = refl
+none-of ks (f ∷ fs) a h =
+    absurd (let w = h (f .code) (a .0) in let x = eq-eqb (f .code) (f .code) refl in let z : _≡_ {A = ℕ} 0 1 = cc in omega arith)
+
+lacking : (rs : RuleSet) (k m : ℕ) → has m (setFaults rs) ≡ false → eqb k m ≡ true → has k (setFaults rs) ≡ false
+lacking rs k m h e = rw (eqb-true k m e) h
+
+actions-differ : (rs : RuleSet) → (rs .mismatch ≡ rs .onMatch → ⊥) → has 3 (setFaults rs) ≡ false
+unfolding setFaults unless oneOf
+actions-differ rs h = rw (ne-eqb _ _ h) (entries-lack 3 refl (rs .entries))
+
+-- where no test fails, nothing is refused
+pub nothing-wrong : (rs : RuleSet) → ascending (rs .entries) ≡ true → (rs .mismatch ≡ rs .onMatch → ⊥) → rulesFilled rs ≡ true → indicesTaken rs ≡ true
+    → widthsFit rs ≡ true → setFaults rs ≡ []
+unfolding oneOf
+nothing-wrong rs up differ filled indexed whole =
+    none-of setCodes (setFaults rs) (set-codes rs) (λ k.
+    either-true (eqb k 3) _ (lacking rs k 3 (actions-differ rs differ))
+    (either-true (eqb k 2) _ (lacking rs k 2 (order-faults rs ∙ rw up))
+    (either-true (eqb k 4) _ (lacking rs k 4 (rule-faults rs empty-row refl refl ∙ rw filled))
+    (either-true (eqb k 5) _ (lacking rs k 5 (rule-faults rs (rule-row index-row refl) refl refl ∙ rw indexed))
+    (either-true (eqb k 8) _ (lacking rs k 8 (rule-faults rs (rule-row width-row refl) refl refl ∙ rw whole)) (λ q. cc))))))
+
+-- ---- compiled
 
 -- `rs` was compiled into `size rs` instructions
 pub record Compiles (size : RuleSet → ℕ) (set : List ℕ) (room : ℕ) (r : Answer) (rs : RuleSet) : Type 0 where
   pub from : read set ≡ some rs
-  pub nothing : refusal rs ≡ 0
+  pub nothing : refusal rs .code ≡ 0
   pub short : size rs < tooMany
   pub fits : 8 * size rs ≤ room
-  pub said : r ≡ answer 0 (size rs) noFault
+  pub said : r ≡ answer (size rs) noFault
 
--- a test that led to another number than 0
-past : (t : Bool) (a b : ℕ) → (a ≡ 0 → ⊥) → cond t a b ≡ 0 → (t ≡ false) × (b ≡ 0)
-past true a b h e = absurd (h e)
-past false a b h e = (refl, e)
+record Answered (n long : ℕ) (rs : RuleSet) (room : ℕ) : Type 0 where
+  nothing : refusal rs .code ≡ 0
+  short : n < tooMany
+  fits : 8 * n ≤ room
+  said : leastOf (refusal rs) (filterFaults n long room) ≡ noFault
 
--- no number applies
-record Nothing (n : ℕ) (rs : RuleSet) (room : ℕ) : Type 0 where
-  up : ascending (rs .entries) ≡ true
-  differ : eqb (rs .mismatch) (rs .onMatch) ≡ false
-  filled : rulesFilled rs ≡ true
-  indexed : indicesTaken rs ≡ true
-  short : leb tooMany n ≡ false
-  fits : ltb room (8 * n) ≡ false
-  whole : widthsFit rs ≡ true
-
-nothing-applies : (n : ℕ) (rs : RuleSet) (room : ℕ) → codeWith n rs room ≡ 0 → Nothing n rs room
-unfolding codeWith
-nothing-applies n rs room e =
-    let w2 = past (not (ascending (rs .entries))) 2 _ (λ q. omega arith) e in
-    let w3 = past (eqb (rs .mismatch) (rs .onMatch)) 3 _ (λ q. omega arith) (w2 .1) in
-    let w4 = past (not (rulesFilled rs)) 4 _ (λ q. omega arith) (w3 .1) in
-    let w5 = past (not (indicesTaken rs)) 5 _ (λ q. omega arith) (w4 .1) in
-    let w6 = past (leb tooMany n) 6 _ (λ q. omega arith) (w5 .1) in
-    let w7 = past (ltb room (8 * n)) 7 _ (λ q. omega arith) (w6 .1) in
-    let w8 = past (not (widthsFit rs)) 8 0 (λ q. omega arith) (w7 .1) in
+answered : (n long : ℕ) (rs : RuleSet) (room : ℕ) → leastOf (refusal rs) (filterFaults n long room) .code ≡ 0 → Answered n long rs room
+unfolding filterFaults
+answered n long rs room e =
+    let w = no-both (setFaults rs) (filterFaults n long room) (least-none (allFaults n long rs room) (all-numbered n long rs room) (rw (all-least n long rs room) at e)) in
+    let v = no-both (unless (ltb n tooMany) (fault 6 long nowhere nowhere)) _ (w .1) in
     record {
-      up = not-false (ascending (rs .entries)) (w2 .0);
-      differ = w3 .0;
-      filled = not-false (rulesFilled rs) (w4 .0);
-      indexed = not-false (indicesTaken rs) (w5 .0);
-      short = w6 .0;
-      fits = w7 .0;
-      whole = not-false (widthsFit rs) (w8 .0);
+      nothing = unfold leastOf in rw (w .0);
+      short = ltb-true n tooMany (no-unless (ltb n tooMany) _ (v .0));
+      fits = leb-true (8 * n) room (no-unless (leb (8 * n) room) _ (v .1));
+      said = unfold leastOf in rw (w .1, w .0);
     }
 
-pub ascending-entries : (rs : RuleSet) → refusal rs ≡ 0 → ascending (rs .entries) ≡ true
-ascending-entries rs e = nothing-applies 0 rs 0 e .up
+pub answered-none : (n long : ℕ) (rs : RuleSet) (room : ℕ) → leastOf (refusal rs) (filterFaults n long room) .code ≡ 0
+    → leastOf (refusal rs) (filterFaults n long room) ≡ noFault
+answered-none n long rs room e = answered n long rs room e .said
 
-pub indices-taken : (rs : RuleSet) → refusal rs ≡ 0 → indicesTaken rs ≡ true
-indices-taken rs e = nothing-applies 0 rs 0 e .indexed
+-- 1 is said of nothing that was read
+pub never-one : (rs : RuleSet) → refusal rs .code ≡ 1 → ⊥
+unfolding oneOf
+never-one rs e =
+    let w = least-first 1 noFault (setFaults rs) (set-numbered rs) e (λ z. omega arith) .0 in
+    let v = set-lacks rs 1 refl in
+    let z : _≡_ {A = ℕ} 0 1 = cc in omega arith
 
-nothing-refused : (n : ℕ) (rs : RuleSet) (room : ℕ) → Nothing n rs room → refusal rs ≡ 0
-unfolding codeWith
-nothing-refused n rs room z = rw (z .up, z .differ, z .filled, z .indexed, z .whole)
+pub answered-not-one : (n long : ℕ) (rs : RuleSet) (room : ℕ) → leastOf (refusal rs) (filterFaults n long room) .code ≡ 1 → ⊥
+unfolding oneOf
+answered-not-one n long rs room e =
+    let w = answered-by n long rs room 1 e (λ z. omega arith) .0 in
+    let v = rw (has-append 1 (setFaults rs) (filterFaults n long room), set-lacks rs 1 refl) at w in
+    let u = lacks (6 ∷ 7 ∷ []) (filterFaults n long room) 1 refl (filter-codes n long room) in
+    let z : _≡_ {A = ℕ} 0 1 = cc in omega arith
 
 abbrev code : Answer → ℕ
 code r = r .code
 
-record Answered (n : ℕ) (long : Fault) (rs : RuleSet) (room : ℕ) : Type 0 where
-  nothing : refusal rs ≡ 0
-  short : n < tooMany
-  fits : 8 * n ≤ room
-  said : answerWith n long rs room ≡ answer 0 n noFault
-
-answered : (n : ℕ) (long : Fault) (rs : RuleSet) (room : ℕ) → answerWith n long rs room .code ≡ 0 → Answered n long rs room
-unfolding answerWith faultOf
-answered n long rs room e =
-    let z = nothing-applies n rs room e in
-    record {
-      nothing = nothing-refused n rs room z;
-      short = leb-false tooMany n (z .short);
-      fits = ltb-false room (8 * n) (z .fits);
-      said = rw e;
-    }
-
-by-read : (size : RuleSet → ℕ) (long : RuleSet → Fault) (set : List ℕ) (room : ℕ) (r : Answer) (x : Option RuleSet) → read set ≡ x
+by-read : (size long : RuleSet → ℕ) (set : List ℕ) (room : ℕ) (r : Answer) (x : Option RuleSet) → read set ≡ x
     → r ≡ answerBy size long x room → r .code ≡ 0 → (rs : RuleSet) × Compiles size set room r rs
+unfolding answer
 by-read size long set room r none e p z = absurd (let q = ap code p in omega arith)
 by-read size long set room r (some rs) e p z =
     let a = answered (size rs) (long rs) rs room (sym (ap code p) ∙ z) in
-    (rs, record { from = e; nothing = a .nothing; short = a .short; fits = a .fits; said = p ∙ a .said })
+    (rs, record { from = e; nothing = a .nothing; short = a .short; fits = a .fits; said = p ∙ ap (answer (size rs)) (a .said) })
 
-pub compiles-by : (size : RuleSet → ℕ) (long : RuleSet → Fault) (set : List ℕ) (room : ℕ) (r : Answer) → r ≡ answerBy size long (read set) room → r .code ≡ 0
+pub compiles-by : (size long : RuleSet → ℕ) (set : List ℕ) (room : ℕ) (r : Answer) → r ≡ answerBy size long (read set) room → r .code ≡ 0
     → (rs : RuleSet) × Compiles size set room r rs
 compiles-by size long set room r p z = by-read size long set room r (read set) refl p z
 

@@ -42,11 +42,13 @@ refused {r = r} h e = record {
 -- some instructions that return what the rule set means, that the kernel takes and that stand for themselves as bytes, written at the
 -- buffer's start
 module _ (set before after : List ℕ) (r : Answer) (rs : RuleSet) (is : List Instruction) (from : read set ≡ some rs)
-    (said : r ≡ answer 0 (length is) noFault) (p : after ≡ filterBytes is ++ drop (8 * length is) before) where
+    (said : r ≡ answer (length is) noFault) (p : after ≡ filterBytes is ++ drop (8 * length is) before) where
   zero-is : r .code ≡ 0
+  unfolding answer
   zero-is = ap (λ (x : Answer). x .code) said
 
   count-is : r .count ≡ length is
+  unfolding answer
   count-is = ap (λ (x : Answer). x .count) said
 
   written-is : written r ≡ 8 * length is

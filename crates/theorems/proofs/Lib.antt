@@ -17,6 +17,7 @@ pub mod Forms
 pub mod Reading
 pub mod RoundTrip
 pub mod Grows
+pub mod Faults
 pub mod Answers
 pub mod Compiled
 pub mod Lengths

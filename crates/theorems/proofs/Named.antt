@@ -1,27 +1,30 @@
 -- NAMED: where an answer names a part, it is the first that has the fault.
-use mathlib.Core.Path.{_≡_, refl, ap}
-use mathlib.Core.Bool.{Bool, true, false, cond, not}
+use mathlib.Core.Path.{_≡_, refl, ap, sym, _∙_}
+use mathlib.Core.Bool.{Bool, true, false, cond, not, _&&_, _||_, and-true, and-assoc}
 use mathlib.Core.List.{List, [], _∷_, _++_, append-assoc, append-nil}
 use mathlib.Core.Option.{Option, none, some}
 use Prim.Native.Nat.{ℕ, zero, suc, _+_, _*_, _≤_, _<_}
+use native.Mathlib.Numerals.{add-one}
 use native.Mathlib.Omega.{arith}
 use lib.Dec.{eqb, leb, ltb}
 use lib.ListN.{length, take, getD, length-append}
 use lib.Seq.{take-all, take-append-le}
 use native.Mathlib.Nat.{add-zero, zero-add}
-use borrow.Author.Tests.{eqb-true, not-true, leb-true, leb-false, le-ltb, lt-ltb}
+use borrow.Author.Tests.{eqb-true, not-true, leb-true, leb-false, le-leb, lt-ltb}
 use Rattle.definitions.specs.declared.Condition.{Condition}
 use Rattle.definitions.specs.declared.Fault.{Fault}
 use Rattle.definitions.specs.RuleSet.{Rule, Entry, RuleSet, withEntries, guarded, oneOf}
 use Rattle.definitions.specs.Emitted.{emitted}
 use Rattle.definitions.specs.Format.{read}
 use Rattle.definitions.specs.Answer as answers
-use Rattle.definitions.specs.Answer.{all, hasConditions, indexTaken, fitsWidth, rulesFilled, indicesTaken, widthsFit, tooMany, codeWith, firstFailing, faultyRule, firstWith, shortWith, tooLong, faultOf, noEntry, answerWith, answerOf}
-use Rattle.theorems.specs.Named.{FirstFailing, FirstWith, RuleNamed, ruleOf, NamedIn, Nowhere, Named, placeless, Unnamed}
+use Rattle.definitions.specs.Answer.{all, hasConditions, indexTaken, fitsWidth, tooMany, fault, nowhere, noFault, unless, setFaults, filterFaults, firstWith, shortWith, tooLong, leastOf, refusal, answer, answerOf}
+use Rattle.theorems.specs.Named.{FirstFailing, FirstWith, noEntry, RuleNamed, ruleOf, NamedIn, Nowhere, Named, placeless, Unnamed}
 use Rattle.theorems.specs.Length.{filterLength}
 use Rattle.theorems.proofs.Tests.{either-true}
 use Rattle.theorems.proofs.Heads.{head-few}
 use Rattle.theorems.proofs.Lengths.{length-emitted}
+use Rattle.theorems.proofs.Faults.{has, firstOf, has-append, first-append, among-unless, own-had, own-first, other-had, other-first, alone-first, firstFailing, firstBelow, spottedIn, spottedRule, RuleRow, index-row, width-row, rule-row, empty-row, order-faults, order-place, rule-faults, rule-place}
+use Rattle.theorems.proofs.Answers.{filter-codes, lacks, set-lacks, entries-lack, answered-by, answered-none, answered-not-one}
 
 -- ---- of lists
 
@@ -83,94 +86,168 @@ first-with f seen (e ∷ es) h b =
         rw (p, add-zero (length seen))
         (record { there = rw length-append (omega arith); fails = rw this p; before = b })
 
--- ---- what a code says
+-- by numbers: what comes next must be above the last
+ascending-more : (es : List Entry) (e f : Entry)
+    → answers.ascending ((es ++ (e ∷ [])) ++ (f ∷ [])) ≡ (answers.ascending (es ++ (e ∷ [])) && leb (e .number + 1) (f .number))
+unfolding answers.ascending
+ascending-more [] e f = rw (add-one (e .number)) (and-true (ltb (e .number) (f .number)))
+ascending-more (x ∷ []) e f =
+    rw (add-one (e .number), and-true (ltb (e .number) (f .number)), and-true (ltb (x .number) (e .number)))
+ascending-more (x ∷ (y ∷ es)) e f =
+    rw (ascending-more (y ∷ es) e f) (sym (and-assoc (ltb (x .number) (y .number)) (answers.ascending ((y ∷ es) ++ (e ∷ []))) (leb (e .number + 1) (f .number))))
 
-abbrev coded : (a b c d x y w : Bool) → ℕ
-coded a b c d x y w = cond a 2 (cond b 3 (cond c 4 (cond d 5 (cond x 6 (cond y 7 (cond w 8 0))))))
-
-tested : (a b c d x y w : Bool)
-    → (coded a b c d x y w ≡ 2 → a ≡ true) × (coded a b c d x y w ≡ 4 → c ≡ true) × (coded a b c d x y w ≡ 5 → d ≡ true)
-    × (coded a b c d x y w ≡ 6 → x ≡ true) × (coded a b c d x y w ≡ 8 → w ≡ true)
-tested true b c d x y w = (λ e. refl, λ e. absurd (omega arith), λ e. absurd (omega arith), λ e. absurd (omega arith), λ e. absurd (omega arith))
-tested false true c d x y w = (λ e. absurd (omega arith), λ e. absurd (omega arith), λ e. absurd (omega arith), λ e. absurd (omega arith), λ e. absurd (omega arith))
-tested false false true d x y w = (λ e. absurd (omega arith), λ e. refl, λ e. absurd (omega arith), λ e. absurd (omega arith), λ e. absurd (omega arith))
-tested false false false true x y w = (λ e. absurd (omega arith), λ e. absurd (omega arith), λ e. refl, λ e. absurd (omega arith), λ e. absurd (omega arith))
-tested false false false false true y w = (λ e. absurd (omega arith), λ e. absurd (omega arith), λ e. absurd (omega arith), λ e. refl, λ e. absurd (omega arith))
-tested false false false false false true w = (λ e. absurd (omega arith), λ e. absurd (omega arith), λ e. absurd (omega arith), λ e. absurd (omega arith), λ e. absurd (omega arith))
-tested false false false false false false true = (λ e. absurd (omega arith), λ e. absurd (omega arith), λ e. absurd (omega arith), λ e. absurd (omega arith), λ e. refl)
-tested false false false false false false false = (λ e. absurd (omega arith), λ e. absurd (omega arith), λ e. absurd (omega arith), λ e. absurd (omega arith), λ e. absurd (omega arith))
+first-below : (least : ℕ) (seen es : List Entry) → ((e : Entry) → answers.ascending (seen ++ (e ∷ [])) ≡ leb least (e .number))
+    → firstWith answers.ascending seen es ≡ firstBelow least es
+unfolding firstWith firstBelow
+first-below least seen [] next = refl
+first-below least seen (e ∷ es) next =
+    rw (next e)
+    (go (leb least (e .number)) (λ h. first-below (e .number + 1) (seen ++ (e ∷ [])) es (λ f. rw (ascending-more seen e f, next e, h))))
+  where
+    go : (t : Bool) → (t ≡ true → firstWith answers.ascending (seen ++ (e ∷ [])) es ≡ firstBelow (e .number + 1) es)
+        → cond t (suc (firstWith answers.ascending (seen ++ (e ∷ [])) es)) 0 ≡ cond t (suc (firstBelow (e .number + 1) es)) 0
+    go true behind = ap suc (behind refl)
+    go false behind = refl
 
 -- ---- the parts that are named
-
-rule-named : (f : Rule → Bool) (inside : Rule → ℕ) (rs : RuleSet) (k c : ℕ) → all (λ (e : Entry). all f (e .rules)) (rs .entries) ≡ false
-    → RuleNamed f rs (answers.answer k c (faultyRule f inside (rs .entries)))
-unfolding faultyRule
-rule-named f inside rs k c h =
-    let entry = first-failing (λ (e : Entry). all f (e .rules)) noEntry (rs .entries) h in
-    record { entry = entry; rule = first-failing f [] _ (entry .fails) }
-
-condition-named : (g : Condition → Bool) (rs : RuleSet) (k c : ℕ) → all (λ (e : Entry). all (all g) (e .rules)) (rs .entries) ≡ false
-    → (q : Condition)
-    → FirstFailing g q (ruleOf rs (answers.answer k c (faultyRule (all g) (firstFailing g) (rs .entries)))) (faultyRule (all g) (firstFailing g) (rs .entries) .condition)
-unfolding faultyRule
-condition-named g rs k c h q = first-failing g q _ (rule-named (all g) (firstFailing g) rs k c h .rule .fails)
 
 entry-named : (f : List Entry → Bool) (es : List Entry) → f [] ≡ true → f es ≡ false → FirstWith f es (firstWith f [] es)
 entry-named f es empty h =
     rw zero-add at (first-with f [] es h (λ k l. let z : k ≡ 0 = omega arith in rw z empty))
 
-module _ (rs : RuleSet) (room : ℕ) where
-  abbrev n : ℕ
-  n = length (emitted rs)
+module _ (rs : RuleSet) (n room : ℕ) where
+  abbrev least : Fault
+  least = leastOf (refusal rs) (filterFaults n (tooLong rs) room)
 
-  says : (codeWith n rs room ≡ 2 → not (answers.ascending (rs .entries)) ≡ true) × (codeWith n rs room ≡ 4 → not (rulesFilled rs) ≡ true)
-      × (codeWith n rs room ≡ 5 → not (indicesTaken rs) ≡ true) × (codeWith n rs room ≡ 6 → leb tooMany n ≡ true) × (codeWith n rs room ≡ 8 → not (widthsFit rs) ≡ true)
-  unfolding codeWith
-  says =
-      tested (not (answers.ascending (rs .entries))) (eqb (rs .mismatch) (rs .onMatch)) (not (rulesFilled rs)) (not (indicesTaken rs))
-      (leb tooMany n) (ltb room (8 * n)) (not (widthsFit rs))
+  -- a number of the set's own
+  from-set : (k : ℕ) → oneOf (6 ∷ 7 ∷ []) k ≡ false → (0 ≡ k → ⊥) → least .code ≡ k → (has k (setFaults rs) ≡ true) × (least ≡ firstOf k (setFaults rs))
+  from-set k other positive e =
+      let w = answered-by n (tooLong rs) rs room k e positive in
+      let absent = lacks (6 ∷ 7 ∷ []) (filterFaults n (tooLong rs) room) k other (filter-codes n (tooLong rs) room) in
+      let either = rw (has-append k (setFaults rs) (filterFaults n (tooLong rs) room), absent) at (w .0) in
+      let there : has k (setFaults rs) ≡ true = either-true (has k (setFaults rs)) false (λ p. p) (λ p. cc) either in
+      (there, w .1 ∙ rw (first-append k (setFaults rs) (filterFaults n (tooLong rs) room), there))
 
-  short-without : shortWith rs [] ≡ true
-  unfolding filterLength
-  short-without =
-      let none : RuleSet = withEntries rs [] in
-      lt-ltb (length (emitted none)) tooMany (omega (arith, length-emitted none, head-few (guarded none) 0))
+  -- a number of the filter's
+  from-filter : (k : ℕ) → has k (setFaults rs) ≡ false → (0 ≡ k → ⊥) → least .code ≡ k
+      → (has k (filterFaults n (tooLong rs) room) ≡ true) × (least ≡ firstOf k (filterFaults n (tooLong rs) room))
+  from-filter k lacking positive e =
+      let w = answered-by n (tooLong rs) rs room k e positive in (
+        rw (has-append k (setFaults rs) (filterFaults n (tooLong rs) room), lacking) at (w .0),
+        w .1 ∙ rw (first-append k (setFaults rs) (filterFaults n (tooLong rs) room), lacking),
+      )
 
-  ascending-without : answers.ascending [] ≡ true
-  unfolding answers.ascending
-  ascending-without = refl
+  abbrev failing : (Rule → Bool) → ℕ
+  failing test = firstFailing (λ (x : Entry). all test (x .rules)) (rs .entries)
 
-  named-in : NamedIn rs (answerWith n (tooLong rs) rs room)
-  unfolding answerWith faultOf faultyRule
-  named-in = record {
-    ascending = λ e. rw e (entry-named answers.ascending (rs .entries) ascending-without (not-true (answers.ascending (rs .entries)) (says .0 e)), refl, refl);
-    empty = λ e. rw e (rule-named hasConditions (λ r. answers.nowhere) rs 4 0 (not-true (rulesFilled rs) (says .1 e)), refl);
-    index = λ e. rw e (rule-named (all indexTaken) (firstFailing indexTaken) rs 5 0 (not-true (indicesTaken rs) (says .2 e)), condition-named indexTaken rs 5 0 (not-true (indicesTaken rs) (says .2 e)));
-    long = λ e. rw e (entry-named (shortWith rs) (rs .entries) short-without (le-ltb n tooMany (leb-true tooMany n (says .3 e))), refl, refl);
-    wide = λ e. rw e (rule-named (all fitsWidth) (firstFailing fitsWidth) rs 8 0 (not-true (widthsFit rs) (says .4 e)), condition-named fitsWidth rs 8 0 (not-true (widthsFit rs) (says .4 e)));
-  }
+  -- a number of rules
+  module _ {k : ℕ} {test : Rule → Bool} {spot : ℕ → ℕ → Rule → Fault} (row : RuleRow k test spot) (two : eqb 2 k ≡ false) (three : eqb 3 k ≡ false)
+      (other : oneOf (6 ∷ 7 ∷ []) k ≡ false) (positive : 0 ≡ k → ⊥) (e : least .code ≡ k) where
+    fails : all (λ (x : Entry). all test (x .rules)) (rs .entries) ≡ false
+    fails = not-true _ (sym (rule-faults rs row two three) ∙ from-set k other positive e .0)
+
+    place-is : least ≡ spottedRule test spot (failing test) (getD (rs .entries) (failing test) noEntry)
+    place-is = from-set k other positive e .1 ∙ rule-place rs row two three noEntry fails
+
+  rule-named : (test : Rule → Bool) (k m c : ℕ) → all (λ (x : Entry). all test (x .rules)) (rs .entries) ≡ false
+      → RuleNamed test rs (answer m (fault k (failing test) (firstFailing test (getD (rs .entries) (failing test) noEntry .rules)) c))
+  unfolding answer
+  rule-named test k m c h =
+      let entry = first-failing (λ (x : Entry). all test (x .rules)) noEntry (rs .entries) h in
+      record { entry = entry; rule = first-failing test [] (getD (rs .entries) (failing test) noEntry .rules) (entry .fails) }
+
+  -- of a condition
+  module _ {k : ℕ} {test : Condition → Bool} (row : RuleRow k (all test) (spottedIn k test)) (two : eqb 2 k ≡ false) (three : eqb 3 k ≡ false)
+      (other : oneOf (6 ∷ 7 ∷ []) k ≡ false) (positive : 0 ≡ k → ⊥) (e : least .code ≡ k) where
+    condition-named : RuleNamed (all test) rs (answer n least)
+        × ((q : Condition) → FirstFailing test q (ruleOf rs (answer n least)) (answer n least .condition))
+    unfolding answer
+    condition-named =
+        rw (place-is row two three other positive e)
+        (let named = rule-named (all test) k n (firstFailing test (getD (getD (rs .entries) (failing (all test)) noEntry .rules) (firstFailing (all test) (getD (rs .entries) (failing (all test)) noEntry .rules)) [])) (fails row two three other positive e) in
+        (named, λ q. first-failing test q _ (named .rule .fails)))
+
+  order-named : least .code ≡ 2 → FirstWith answers.ascending (rs .entries) (answer n least .entry) × (answer n least .rule ≡ nowhere) × (answer n least .condition ≡ nowhere)
+  unfolding answer answers.ascending oneOf
+  order-named e =
+      let w = from-set 2 refl (λ z. omega arith) e in
+      let down = not-true _ (sym (order-faults rs) ∙ w .0) in
+      let same = first-below 0 [] (rs .entries) (λ f. sym (le-leb 0 (f .number) (omega arith))) in
+      rw (w .1, order-place rs down, ← same) (entry-named answers.ascending (rs .entries) refl down, refl, refl)
+
+  empty-named : least .code ≡ 4 → RuleNamed hasConditions rs (answer n least) × (answer n least .condition ≡ nowhere)
+  unfolding answer oneOf
+  empty-named e =
+      rw (place-is empty-row refl refl refl (λ z. omega arith) e)
+      (rule-named hasConditions 4 n nowhere (fails empty-row refl refl refl (λ z. omega arith) e), refl)
+
+  long-place : least .code ≡ 6 → (ltb n tooMany ≡ false) × (least ≡ fault 6 (tooLong rs) nowhere nowhere)
+  unfolding oneOf filterFaults
+  long-place e =
+      let w = from-filter 6 (set-lacks rs 6 refl) (λ z. omega arith) e in
+      let absent = lacks (7 ∷ []) (unless (leb (8 * n) room) (answers.placeless 7)) 6 refl (among-unless (7 ∷ []) (leb (8 * n) room) (answers.placeless 7) refl) in
+      let long = not-true _ (sym (own-had 6 (ltb n tooMany) (fault 6 (tooLong rs) nowhere nowhere) _ refl absent) ∙ w .0) in
+      (long, w .1 ∙ own-first 6 (ltb n tooMany) _ _ refl long)
+
+  room-place : least .code ≡ 7 → least ≡ answers.placeless 7
+  unfolding oneOf filterFaults
+  room-place e =
+      let w = from-filter 7 (set-lacks rs 7 refl) (λ z. omega arith) e in
+      let six = fault 6 (tooLong rs) nowhere nowhere in
+      let short = sym (other-had 7 (ltb n tooMany) six (unless (leb (8 * n) room) (answers.placeless 7)) refl) ∙ w .0 in
+      w .1 ∙ other-first 7 (ltb n tooMany) six (unless (leb (8 * n) room) (answers.placeless 7)) refl ∙ alone-first (leb (8 * n) room) (answers.placeless 7) short
+
+  actions-place : least .code ≡ 3 → least ≡ answers.placeless 3
+  unfolding oneOf setFaults
+  actions-place e =
+      let w = from-set 3 refl (λ z. omega arith) e in
+      let differ = not (eqb (rs .mismatch) (rs .onMatch)) in
+      let same = not-true differ (sym (own-had 3 differ (answers.placeless 3) _ refl (entries-lack 3 refl (rs .entries))) ∙ w .0) in
+      w .1 ∙ own-first 3 differ _ _ refl same
+
+short-without : (rs : RuleSet) → shortWith rs [] ≡ true
+unfolding filterLength
+short-without rs =
+    let none : RuleSet = withEntries rs [] in
+    lt-ltb (length (emitted none)) tooMany (omega (arith, length-emitted none, head-few (guarded none) 0))
+
+named-in : (rs : RuleSet) (room : ℕ) → NamedIn rs (answer (length (emitted rs)) (least rs (length (emitted rs)) room))
+unfolding answer oneOf
+named-in rs room =
+    let n = length (emitted rs) in
+    record {
+      ascending = order-named rs n room;
+      empty = empty-named rs n room;
+      index = condition-named rs n room (rule-row index-row refl) refl refl refl (λ z. omega arith);
+      long = λ e.
+          let w = long-place rs n room e in
+          rw (w .1) (entry-named (shortWith rs) (rs .entries) (short-without rs) (w .0), refl, refl);
+      wide = condition-named rs n room (rule-row width-row refl) refl refl refl (λ z. omega arith);
+    }
 
 pub named : Named
 unfolding answerOf
 named set room rs e = rw e (named-in rs room)
 
--- ---- the codes that name nothing
+-- ---- the answers that name nothing
 
-no-fault : (code : ℕ) → oneOf placeless code ≡ true → (long : Fault) (rs : RuleSet) → faultOf long code rs ≡ answers.noFault
-unfolding oneOf faultOf
-no-fault code h long rs =
-    either-true (eqb code 0) _ (λ p. rw (eqb-true code 0 p))
-    (λ q. either-true (eqb code 1) _ (λ p. rw (eqb-true code 1 p))
-    (λ q. either-true (eqb code 3) _ (λ p. rw (eqb-true code 3 p))
-    (λ q. either-true (eqb code 7) _ (λ p. rw (eqb-true code 7 p)) (λ q. cc) q) q) q) h
+nowhere-by : (n : ℕ) (f : Fault) (k : ℕ) → f ≡ answers.placeless k → Nowhere (answer n f)
+unfolding answer
+nowhere-by n f k e = rw e (refl, refl, refl)
+
+unnamed-in : (rs : RuleSet) (n room code : ℕ) → oneOf placeless code ≡ true → least rs n room .code ≡ code → Nowhere (answer n (least rs n room))
+unfolding oneOf
+unnamed-in rs n room code h e =
+    either-true (eqb code 0) _ (λ p. nowhere-by n _ 0 (answered-none n (tooLong rs) rs room (e ∙ eqb-true code 0 p)))
+    (either-true (eqb code 1) _ (λ p. absurd (answered-not-one n (tooLong rs) rs room (e ∙ eqb-true code 1 p)))
+    (either-true (eqb code 3) _ (λ p. nowhere-by n _ 3 (actions-place rs n room (e ∙ eqb-true code 3 p)))
+    (either-true (eqb code 7) _ (λ p. nowhere-by n _ 7 (room-place rs n room (e ∙ eqb-true code 7 p))) (λ q. absurd (let z : _≡_ {A = ℕ} 0 1 = cc in omega arith))))) h
 
 unnamed-by : (x : Option RuleSet) (room code : ℕ) → oneOf placeless code ≡ true → answers.answerBy answers.emittedSize tooLong x room .code ≡ code
     → Nowhere (answers.answerBy answers.emittedSize tooLong x room)
-unfolding answerWith
+unfolding answer
 unnamed-by none room code h e = (refl, refl, refl)
-unnamed-by (some rs) room code h e =
-    let f = no-fault code h (tooLong rs) rs in
-    rw e (ap (λ (x : Fault). x .entry) f, ap (λ (x : Fault). x .rule) f, ap (λ (x : Fault). x .condition) f)
+unnamed-by (some rs) room code h e = unnamed-in rs (length (emitted rs)) room code h e
 
 pub unnamed : Unnamed
 unfolding answerOf

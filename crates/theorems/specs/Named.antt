@@ -9,7 +9,7 @@ use Rattle.definitions.specs.declared.Condition.{Condition}
 use Rattle.definitions.specs.declared.Answer.{Answer}
 use Rattle.definitions.specs.RuleSet.{Rule, Entry, RuleSet, oneOf}
 use Rattle.definitions.specs.Format.{read}
-use Rattle.definitions.specs.Answer.{ascending, all, hasConditions, indexTaken, fitsWidth, shortWith, nowhere, noEntry, answerOf}
+use Rattle.definitions.specs.Answer.{ascending, all, hasConditions, indexTaken, fitsWidth, shortWith, nowhere, answerOf}
 
 -- part n is there, does not pass, and all in front of it do
 pub record FirstFailing {A : Type 0} (f : A → Bool) (nothing : A) (parts : List A) (n : ℕ) : Type 0 where
@@ -22,6 +22,9 @@ pub record FirstWith (f : List Entry → Bool) (entries : List Entry) (n : ℕ) 
   pub there : n < length entries
   pub fails : f (take (suc n) entries) ≡ false
   pub before : (k : ℕ) → k ≤ n → f (take k entries) ≡ true
+
+abbrev pub noEntry : Entry
+noEntry = record { number = 0; rules = [] }
 
 -- the rule that an answer names is the first that does not pass, in the first entry that has one
 pub record RuleNamed (f : Rule → Bool) (rs : RuleSet) (r : Answer) : Type 0 where

@@ -1,7 +1,7 @@
 -- `callfilter_compile` meets its contract: a refusal writes nothing, and else the emitted filter is written.
 use native.Mathlib.Omega.{arith}
 use mathlib.Core.Path.{refl}
-use Rattle.callfilter.proofs.Laws.{refused-compiled, writable, done-compiled}
+use Rattle.callfilter.proofs.Answering.{refused-compiled, writable, done-compiled}
 use borrow.Author.Needs.{needs}
 use Rattle.callfilter.proofs.callfilter_compile.Statement.{statement}
 use Rattle.callfilter.proofs.callfilter_compile.Tie as tie
@@ -15,7 +15,7 @@ returns c = refused-compiled (c .before .before .verdict .ensures) (c .if1 .take
 put-filter-requires : tie.Need-put-filter-requires
 put-filter-requires c κs =
     let w = writable _ _ (c .before .before .before .verdict .result) (c .before .before .before .verdict .ensures) (c .before .if1 .left) in
-    ((w .head, w .size, w .entries), w .fits)
+    w
 
 same-length : tie.Need-same-length
 same-length c = search needs

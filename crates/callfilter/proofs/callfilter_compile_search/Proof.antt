@@ -2,7 +2,7 @@
 use native.Mathlib.Omega.{arith}
 use mathlib.Core.Path.{refl}
 use Rattle.search_form.proofs.Searched.{refused}
-use Rattle.callfilter.proofs.Laws.{search-writable, done-searched}
+use Rattle.callfilter.proofs.Answering.{search-writable, done-searched}
 use borrow.Author.Needs.{needs}
 use Rattle.callfilter.proofs.callfilter_compile_search.Statement.{statement}
 use Rattle.callfilter.proofs.callfilter_compile_search.Tie as tie
@@ -20,7 +20,7 @@ put-search-requires : tie.Need-put-search-requires
 put-search-requires c κs =
     let found = c .before .before .before .before .search-verdict in
     let w = search-writable _ _ (found .result) (found .ensures) (c .before .before .if1 .left) in
-    ((w .0, w .1, w .2), (w .3, w .4))
+    (w .0, (w .1, w .2))
 
 same-length : tie.Need-same-length
 same-length c = search needs

@@ -2,9 +2,8 @@
 use mathlib.Core.Path.{sym, _∙_, ap}
 use borrow.Author.Tests.{ne-eqb}
 use denote.Ref.{now}
-use Rattle.definitions.specs.Machine.{callOf}
 use Rattle.definitions.specs.Outcome.{decided, decidedOf}
-use Rattle.decision.proofs.Laws.{decided-refused, decides, decided-meaning}
+use Rattle.decision.proofs.Laws.{decided-refused, decides}
 use borrow.Author.Needs.{needs}
 use Rattle.decision.proofs.decide.Statement.{statement}
 use Rattle.decision.proofs.decide.Tie as tie
@@ -28,16 +27,16 @@ returns-2 c =
 
 meaning-requires : tie.Need-meaning-requires
 meaning-requires c κs =
-    let d = decides (now (c .before .before .before .before .before .args .set)) (callOf (now (c .before .before .before .before .before .args .call))) (c .before .judge .result) (c .before .judge .ensures .0) (c .if2 .left) in
-    ((d .head, d .size, d .entries), c .before .before .if1 .left)
+    let d = decides (now (c .before .before .before .before .before .args .set)) (now (c .before .before .before .before .before .args .call)) (c .before .judge .result) (c .before .before .if1 .left) (c .before .judge .ensures .0) (c .if2 .left) in
+    (d .0, c .before .before .if1 .left)
 
 decided-requires-3 : tie.Need-decided-requires-3
 decided-requires-3 c κs = search needs
 
 returns-3 : tie.Need-returns-3
 returns-3 c =
-    let d = decides (now (c .before .before .before .before .before .before .before .args .set)) (callOf (now (c .before .before .before .before .before .before .before .args .call))) (c .before .before .before .judge .result) (c .before .before .before .judge .ensures .0) (c .before .before .if2 .left) in
-    c .decided3 .ensures ∙ ap (decided 0) (c .before .meaning .ensures) ∙ sym (decided-meaning (now (c .before .before .before .before .before .before .before .args .set)) (now (c .before .before .before .before .before .before .before .args .call)) (c .before .before .before .before .if1 .left) d)
+    let d = decides (now (c .before .before .before .before .before .before .before .args .set)) (now (c .before .before .before .before .before .before .before .args .call)) (c .before .before .before .judge .result) (c .before .before .before .before .if1 .left) (c .before .before .before .judge .ensures .0) (c .before .before .if2 .left) in
+    c .decided3 .ensures ∙ ap (decided 0) (c .before .meaning .ensures) ∙ sym (d .1)
 
 pub decide-spec : {M : Type 1} → statement M
 decide-spec =

@@ -42,7 +42,7 @@ u32-at-requires-6 : tie.Need-u32-at-requires-6
 u32-at-requires-6 c κs = search needs
 
 listed-requires : tie.Need-listed-requires
-listed-requires c κs = (c .before .before .before .before .before .before .before .before .before .before .before .before .pre .1, rw (c .u32-at6 .ensures) (c .before .before .before .before .before .before .before .before .before .before .before .before .pre .0 .2, c .before .before .before .before .before .before .before .before .before .before .before .before .pre .0 .1))
+listed-requires c κs = (c .before .before .before .before .before .before .before .before .before .before .before .before .pre .1, rw (c .u32-at6 .ensures) (c .before .before .before .before .before .before .before .before .before .before .before .before .pre .0 .entries, c .before .before .before .before .before .before .before .before .before .before .before .before .pre .0 .size))
 
 returns-3 : tie.Need-returns-3
 returns-3 c =

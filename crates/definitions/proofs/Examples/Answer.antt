@@ -2,6 +2,7 @@
 use mathlib.Core.Path.{_≡_, refl}
 use mathlib.Core.Bool.{Bool, true, false, _&&_}
 use mathlib.Core.List.{List, [], _∷_, _++_}
+use mathlib.Core.Option.{some}
 use Prim.Native.Nat.{ℕ, _+_, _-_, _^_}
 use lib.Dec.{eqb, ltb}
 use lib.ListN.{length, take, replicate, set as put}
@@ -9,10 +10,11 @@ use Rattle.definitions.specs.declared.Operator.the-variants.{Eq, Ge, Mas
 use Rattle.definitions.specs.declared.Width.the-variants.{Dword, Qword}
 use Rattle.definitions.specs.declared.Condition.{Condition}
 use Rattle.definitions.specs.declared.Fault.{Fault}
+use Rattle.definitions.specs.declared.Answer.{Answer}
 use Rattle.definitions.specs.Word.{bytesOf, numberOf, numberAt}
 use Rattle.definitions.specs.RuleSet.{x86-64, aarch64, architectureWord, oneOf, isAction, Rule, Entry, RuleSet, guarded, hasSecondTable}
 use Rattle.definitions.specs.Format.{architectureNumber, widthNumber, operatorNumber, encodeCondition, encodeRule, encodeEntry, encode, architectureOf, widthOf, operatorOf, maskTaken, times, conditionAt, ruleAt, entryAt, read, unflagged, nativeOf, headNumber}
-use Rattle.definitions.specs.Answer.{ascending, all, codeWith, fault, nowhere, noFault, firstFailing, faultyRule, firstWith, shortWith, faultOf, answer, answerWith, answerOf}
+use Rattle.definitions.specs.Answer.{all, fault, nowhere, placeless, noFault, unless, faultsOf, conditionFaults, ruleFaults, entriesFaults, setFaults, filterFaults, firstWith, shortWith, lesser, leastOf, answer, answerBy, answerOf}
 use Rattle.definitions.specs.Emitted.{highTests, lowTests, highPart, lowPart, conditionCode, helpers, near, stepCode, stepDistance, conditionsCode, distance, ruleCode, rulesCode, bodyCode, entryCode, entriesCode, numbersCode, emitted, headCode, numberCode}
 use Rattle.definitions.proofs.Examples.RuleSet.{compared, allow, errno}
 
@@ -117,31 +119,31 @@ abbrev rowHolds : Row → Bool
 rowHolds r = let a = answerOf (r .bytes) (r .room) in eqb (a .code) (r .code) && eqb (a .count) (r .count)
 
 table-holds : all rowHolds table ≡ true
-unfolding answerOf answerWith codeWith ascending read entryAt ruleAt conditionAt times maskTaken operatorOf widthOf architectureOf unflagged nativeOf isAction oneOf numberAt numberOf encode encodeEntry encodeRule encodeCondition bytesOf architectureNumber headNumber widthNumber operatorNumber architectureWord emitted headCode numberCode guarded hasSecondTable numbersCode entriesCode entryCode bodyCode rulesCode ruleCode conditionsCode distance stepCode stepDistance helpers near conditionCode highPart lowPart highTests lowTests
+unfolding answerOf answer leastOf lesser setFaults filterFaults entriesFaults ruleFaults conditionFaults faultsOf unless read entryAt ruleAt conditionAt times maskTaken operatorOf widthOf architectureOf unflagged nativeOf isAction oneOf numberAt numberOf encode encodeEntry encodeRule encodeCondition bytesOf architectureNumber headNumber widthNumber operatorNumber architectureWord emitted headCode numberCode guarded hasSecondTable numbersCode entriesCode entryCode bodyCode rulesCode ruleCode conditionsCode distance stepCode stepDistance helpers near conditionCode highPart lowPart highTests lowTests
 table-holds = refl
 
 -- 6: the limit itself, by the number of instructions alone
 abbrev smallest : RuleSet
 smallest = record { architecture = x86-64; nativeOnly = false; mismatch = errno 1; onMatch = allow; entries = [] }
 
-abbrev somewhere : Fault
-somewhere = fault 7 nowhere nowhere
+-- a filter of n instructions, too long from entry 7 on
+abbrev sized : ℕ → ℕ → Answer
+sized n room = answerBy (λ rs. n) (λ rs. 7) (some smallest) room
 
-limit : (answerWith 4096 somewhere smallest 40000 ≡ answer 0 4096 noFault) × (answerWith 4097 somewhere smallest 40000 ≡ answer 6 4097 somewhere)
-    × (answerWith 4097 somewhere smallest 0 ≡ answer 6 4097 somewhere) × (answerWith 4096 somewhere smallest 32767 ≡ answer 7 4096 noFault)
-unfolding answerWith codeWith ascending faultOf
+limit : (sized 4096 40000 ≡ answer 4096 noFault) × (sized 4097 40000 ≡ answer 4097 (fault 6 7 nowhere nowhere))
+    × (sized 4097 0 ≡ answer 4097 (fault 6 7 nowhere nowhere)) × (sized 4096 32767 ≡ answer 4096 (placeless 7))
+unfolding leastOf lesser setFaults filterFaults entriesFaults unless
 limit = (refl, refl, refl, refl)
 
 -- ---- where the fault is
 
--- a set, the code that is asked about, and the place
+-- some entries, and what is refused in them
 record Faulty : Type 0 where
   entries : List Entry
-  code : ℕ
-  place : Fault
+  refused : Fault
 
-abbrev faulty : List Entry → ℕ → Fault → Faulty
-faulty es k f = record { entries = es; code = k; place = f }
+abbrev faulty : List Entry → Fault → Faulty
+faulty es f = record { entries = es; refused = f }
 
 abbrev entry : ℕ → List Rule → Entry
 entry n rules = record { number = n; rules = rules }
@@ -156,28 +158,28 @@ abbrev wide : Condition
 wide = compared Eq Dword 5 (2 ^ 32) 0
 
 abbrev sameFault : Fault → Fault → Bool
-sameFault a b = eqb (a .entry) (b .entry) && eqb (a .rule) (b .rule) && eqb (a .condition) (b .condition)
+sameFault a b = eqb (a .code) (b .code) && eqb (a .entry) (b .entry) && eqb (a .rule) (b .rule) && eqb (a .condition) (b .condition)
 
 abbrev faults : List Faulty
 faults =
-    faulty (plain 1 ∷ plain 3 ∷ plain 3 ∷ plain 2 ∷ []) 2 (fault 2 nowhere nowhere)
-    ∷ faulty (plain 9 ∷ plain 3 ∷ []) 2 (fault 1 nowhere nowhere)
-    ∷ faulty (entry 1 ((good ∷ []) ∷ []) ∷ entry 2 ((good ∷ []) ∷ [] ∷ [] ∷ []) ∷ entry 3 ([] ∷ []) ∷ []) 4 (fault 1 1 nowhere)
-    ∷ faulty (plain 0 ∷ entry 1 ((good ∷ []) ∷ (good ∷ good ∷ bad ∷ bad ∷ []) ∷ (bad ∷ []) ∷ []) ∷ []) 5 (fault 1 1 2)
-    ∷ faulty (entry 1 ((bad ∷ wide ∷ []) ∷ []) ∷ []) 8 (fault 0 0 1)
-    -- the other answers have none
-    ∷ faulty (plain 1 ∷ plain 1 ∷ []) 0 noFault
-    ∷ faulty (plain 1 ∷ plain 1 ∷ []) 1 noFault
-    ∷ faulty (plain 1 ∷ plain 1 ∷ []) 3 noFault
-    ∷ faulty (plain 1 ∷ plain 1 ∷ []) 7 noFault
+    faulty (plain 1 ∷ plain 3 ∷ plain 3 ∷ plain 2 ∷ []) (fault 2 2 nowhere nowhere)
+    ∷ faulty (plain 9 ∷ plain 3 ∷ []) (fault 2 1 nowhere nowhere)
+    ∷ faulty (entry 1 ((good ∷ []) ∷ []) ∷ entry 2 ((good ∷ []) ∷ [] ∷ [] ∷ []) ∷ entry 3 ([] ∷ []) ∷ []) (fault 4 1 1 nowhere)
+    ∷ faulty (plain 0 ∷ entry 1 ((good ∷ []) ∷ (good ∷ good ∷ bad ∷ bad ∷ []) ∷ (bad ∷ []) ∷ []) ∷ []) (fault 5 1 1 2)
+    ∷ faulty (entry 1 ((good ∷ wide ∷ []) ∷ []) ∷ []) (fault 8 0 0 1)
+    -- the smallest number counts, wherever it stands
+    ∷ faulty (entry 1 ((wide ∷ bad ∷ []) ∷ []) ∷ entry 2 ([] ∷ []) ∷ []) (fault 4 1 0 nowhere)
+    ∷ faulty (entry 1 ((wide ∷ bad ∷ []) ∷ []) ∷ entry 2 ((bad ∷ []) ∷ []) ∷ []) (fault 5 0 0 1)
+    ∷ faulty (entry 1 ([] ∷ []) ∷ plain 1 ∷ []) (fault 2 1 nowhere nowhere)
+    ∷ faulty (plain 1 ∷ plain 2 ∷ []) noFault
     ∷ []
 
 abbrev faultyHolds : Faulty → Bool
 faultyHolds w =
-    sameFault (faultOf somewhere (w .code) (record { architecture = x86-64; nativeOnly = false; mismatch = errno 1; onMatch = allow; entries = w .entries })) (w .place)
+    sameFault (leastOf noFault (setFaults (record { architecture = x86-64; nativeOnly = false; mismatch = errno 1; onMatch = allow; entries = w .entries }))) (w .refused)
 
 places : all faultyHolds faults ≡ true
-unfolding faultOf firstWith ascending faultyRule firstFailing
+unfolding leastOf lesser setFaults entriesFaults ruleFaults conditionFaults faultsOf unless
 places = refl
 
 -- 4,096 instructions are short enough, one more is not: five for each number, five around them, eleven and twelve for the last

@@ -4,8 +4,8 @@ use borrow.Author.Needs.{needs}
 use borrow.Author.Tests.{lt-leb, le-leb, eq-eqb, ne-eqb, not-true, not-false}
 use denote.Ref.{now}
 use native.Mathlib.Omega.{arith}
-use Rattle.judge.specs.Scan.{conditionTaken}
-use Rattle.judge.proofs.Laws.{condition-there}
+use Rattle.judge.specs.Walk.{conditionTaken}
+use Rattle.judge.proofs.Conditions.{condition-there}
 use Rattle.judge.proofs.condition_there.Statement.{statement}
 use Rattle.judge.proofs.condition_there.Tie as tie
 

@@ -1,6 +1,6 @@
 -- `head_there` meets its contract: one test after the other.
 use borrow.Author.Tests.{not-true, not-false}
-use Rattle.judge.specs.Scan.{headTaken}
+use Rattle.judge.specs.Walk.{headTaken}
 use borrow.Author.Needs.{needs}
 use Rattle.judge.proofs.head_there.Statement.{statement}
 use Rattle.judge.proofs.head_there.Tie as tie

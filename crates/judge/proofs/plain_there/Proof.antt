@@ -1,7 +1,7 @@
 -- `plain_there` meets its contract: the definition's tests, made one after the other.
 use borrow.Author.Needs.{needs}
 use borrow.Author.Tests.{eq-eqb, ne-eqb, le-leb, lt-leb}
-use Rattle.judge.specs.Scan.{plainThere}
+use Rattle.judge.specs.Walk.{plainThere}
 use Rattle.judge.proofs.plain_there.Statement.{statement}
 use Rattle.judge.proofs.plain_there.Tie as tie
 

@@ -1,11 +1,7 @@
--- `scan_rule` meets its contract: its four bytes, then its conditions.
-use mathlib.Core.Path.{_≡_, refl, sym, _∙_}
-use native.Mathlib.Omega.{arith}
-use borrow.Author.Tests.{not-true, not-false, eq-eqb}
-use denote.Ref.{now}
-use Rattle.judge.specs.Scan.{ruleFrom}
-use Rattle.judge.proofs.Laws.{broken-off, rule-short, rule-from}
+-- `scan_rule` meets its contract: what its conditions are told on top of is what the rule adds itself.
 use borrow.Author.Needs.{needs}
+use mathlib.Core.Path.{sym, _∙_}
+use Rattle.judge.proofs.Walk.{broken-off, rule-short, rule-from}
 use Rattle.judge.proofs.scan_rule.Statement.{statement}
 use Rattle.judge.proofs.scan_rule.Tie as tie
 
@@ -16,36 +12,31 @@ not-there-requires : tie.Need-not-there-requires
 not-there-requires c κs = search needs
 
 returns : tie.Need-returns
-returns c = broken-off _ _ (c .not-there .ensures) (rule-short _ _ (c .before .if1 .taken))
+returns c = broken-off _ (c .not-there .ensures) (rw (rule-short _ _ (c .before .if1 .taken)))
 
 u32-at-requires : tie.Need-u32-at-requires
 u32-at-requires c κs = search needs
 
+fault-requires : tie.Need-fault-requires
+fault-requires c κs = search needs
+
+note-requires : tie.Need-note-requires
+note-requires c κs = search needs
+
 add-scan-conditions : tie.Need-add-scan-conditions
 add-scan-conditions c = search needs
+
+add-scan-conditions-2 : tie.Need-add-scan-conditions-2
+add-scan-conditions-2 c = search needs
 
 scan-conditions-requires : tie.Need-scan-conditions-requires
 scan-conditions-requires c κs = search needs
 
-not-there-requires-2 : tie.Need-not-there-requires-2
-not-there-requires-2 c κs = search needs
-
 returns-2 : tie.Need-returns-2
-unfolding ruleFrom
 returns-2 c =
-    broken-off _ _ (c .not-there2 .ensures) (rule-from _ _ (c .before .before .before .before .before .if1 .left) ∙ rw (← c .before .before .before .before .u32-at .ensures, ← c .before .before .before .scan-conditions .ensures .same, not-true (c .before .before .before .scan-conditions .result .ok) (c .before .if2 .taken)))
-
-add-t5 : tie.Need-add-t5
-add-t5 c = omega (arith, c .before .before .before .scan-conditions .ensures .inside (not-false _ (c .before .if2 .left)))
-
-returns-3 : tie.Need-returns-3
-unfolding ruleFrom
-returns-3 c =
-    let ok = not-false (c .before .before .before .scan-conditions .result .ok) (c .before .if2 .left) in
-    let in-bytes = c .before .before .before .scan-conditions .ensures .inside ok in
     record {
-      same = sym (rule-from _ _ (c .before .before .before .before .before .if1 .left) ∙ rw (← c .before .before .before .before .u32-at .ensures, ← c .before .before .before .scan-conditions .ensures .same, ok));
-      inside = λ e. (in-bytes .0, omega arith);
+      same = c .scan-conditions .ensures .same ∙ rw (c .before .note .ensures, c .before .before .fault .ensures, c .before .before .before .u32-at .ensures) (sym (rule-from _ _ _ _ _ (c .before .before .before .before .if1 .left)));
+      inside = c .scan-conditions .ensures .inside;
     }
 
 pub scan-rule-spec : {M : Type 1} → statement M
@@ -56,9 +47,9 @@ scan-rule-spec =
     not-there-requires
     returns
     u32-at-requires
+    fault-requires
+    note-requires
     add-scan-conditions
+    add-scan-conditions-2
     scan-conditions-requires
-    not-there-requires-2
-    returns-2
-    add-t5
-    returns-3)
+    returns-2)

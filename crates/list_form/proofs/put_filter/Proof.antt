@@ -28,7 +28,7 @@ put-entries-requires c κs =
     let n = filter-length (now (c .before .before .before .before .before .before .before .before .before .before .before .args .s)) in
     let at = rw (c .before .before .before .before .u32-at4 .ensures, c .before .before .before .before .before .before .u32-at3 .ensures) at (c .before .before .before .put-head .ensures .1) in
     rw (c .before .before .before .before .before .before .u32-at3 .ensures, c .before .before .before .before .before .before .before .u32-at2 .ensures, c .before .before .before .before .before .before .before .before .u32-at .ensures)
-    ((c .before .before .before .before .before .before .before .before .before .before .before .pre .0 .2, c .before .before .before .before .before .before .before .before .before .before .before .pre .0 .1), omega (arith, c .before .before .before .before .before .before .before .before .before .before .before .pre .1, c .before .before .before .put-head .kept .0))
+    ((c .before .before .before .before .before .before .before .before .before .before .before .pre .0 .entries, c .before .before .before .before .before .before .before .before .before .before .before .pre .0 .size), omega (arith, c .before .before .before .before .before .before .before .before .before .before .before .pre .1, c .before .before .before .put-head .kept .0))
 
 give-requires : tie.Need-give-requires
 give-requires c κs = search needs

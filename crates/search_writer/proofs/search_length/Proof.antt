@@ -16,7 +16,7 @@ u32-at-requires c κs = search needs
 bodies-length-requires : tie.Need-bodies-length-requires
 bodies-length-requires c κs =
     let given = c .before .before .pre in
-    (rw (c .u32-at .ensures) (given .2), given .1)
+    (rw (c .u32-at .ensures) (given .entries), given .size)
 
 slice-aggregate-put-planted : tie.Need-slice-aggregate-put-planted
 slice-aggregate-put-planted c = search needs
@@ -24,7 +24,7 @@ slice-aggregate-put-planted c = search needs
 put-planted-requires : tie.Need-put-planted-requires
 put-planted-requires c κs =
     let given = c .before .before .before .before .pre in
-    ((omega arith, given .0, given .1, rw (c .before .before .u32-at .ensures) (given .2)), c .before .bodies-length .ensures)
+    ((omega arith, given .head, given .size, rw (c .before .before .u32-at .ensures) (given .entries)), c .before .bodies-length .ensures)
 
 u32-at-requires-2 : tie.Need-u32-at-requires-2
 u32-at-requires-2 c κs = search needs
