@@ -116,9 +116,18 @@ unfoldable pub distance : Rule → ℕ → ℕ
 distance [] d = d
 distance (q ∷ qs) d = distance qs (stepDistance q d)
 
--- The second jump leads a call with another number over the rule, to the second jump of the next one. Match action m.
+-- a rule's body: its conditions, and the return where they hold. Match action m.
+unfoldable pub ruleBody : ℕ → Rule → List Instruction
+ruleBody m qs = conditionsCode qs 1 ++ (return m ∷ [])
+
+-- The rule: its body behind two jumps. The second leads a call with another number over the rule, to the second jump of the next one.
 unfoldable pub ruleCode : ℕ → Rule → List Instruction
-ruleCode m qs = (jumpBy 1 ∷ jumpBy (distance qs 1 + 1) ∷ []) ++ (conditionsCode qs 1 ++ (return m ∷ []))
+ruleCode m qs = (jumpBy 1 ∷ jumpBy (distance qs 1 + 1) ∷ []) ++ ruleBody m qs
+
+-- the code of parts, one behind the other
+abbrev pub sequence : {A : Type 0} → (A → List Instruction) → List A → List Instruction
+sequence f [] = []
+sequence f (x ∷ xs) = f x ++ sequence f xs
 
 -- ---- the head: a call of another architecture is killed, since its numbers stand for other calls
 
@@ -138,9 +147,8 @@ headCode a guards n = load 4 ∷ ifEqual (architectureWord a) 1 0 ∷ return kil
 
 -- ---- an entry, and the whole filter: match action m, mismatch action d
 
-unfoldable pub rulesCode : ℕ → List Rule → List Instruction
-rulesCode m [] = []
-rulesCode m (r ∷ rs) = ruleCode m r ++ rulesCode m rs
+abbrev pub rulesCode : ℕ → List Rule → List Instruction
+rulesCode m rs = sequence (ruleCode m) rs
 
 -- a number without rules: jump 1, jump 2, return match, as a rule with no conditions would be
 unfoldable pub bodyCode : ℕ → List Rule → List Instruction
@@ -150,9 +158,8 @@ bodyCode m (r ∷ rs) = rulesCode m (r ∷ rs)
 unfoldable pub entryCode : ℕ → ℕ → Entry → List Instruction
 entryCode m d e = ifEqual (e .number) 0 1 ∷ (bodyCode m (e .rules) ++ (return d ∷ []))
 
-unfoldable pub entriesCode : ℕ → ℕ → List Entry → List Instruction
-entriesCode m d [] = []
-entriesCode m d (e ∷ es) = entryCode m d e ++ entriesCode m d es
+abbrev pub entriesCode : ℕ → ℕ → List Entry → List Instruction
+entriesCode m d es = sequence (entryCode m d) es
 
 -- the entries, one after the other, and the return for a number that none of them lists
 unfoldable pub numbersCode : ℕ → ℕ → List Entry → List Instruction
@@ -165,15 +172,10 @@ headed rs p = headCode (rs .architecture) (guarded rs) (length (rs .entries)) ++
 unfoldable pub emitted : RuleSet → List Instruction
 emitted rs = headed rs (numbersCode (rs .onMatch) (rs .mismatch) (rs .entries))
 
--- ---- a number's rules by themselves
+-- ---- a number's rules by themselves, without the jumps that lead from one to the next
 
--- a rule without the two jumps that the emitted form has in front of it
-unfoldable pub ruleBody : ℕ → Rule → List Instruction
-ruleBody m qs = conditionsCode qs 1 ++ (return m ∷ [])
-
-unfoldable pub ruleBodies : ℕ → List Rule → List Instruction
-ruleBodies m [] = []
-ruleBodies m (r ∷ rs) = ruleBody m r ++ ruleBodies m rs
+abbrev pub ruleBodies : ℕ → List Rule → List Instruction
+ruleBodies m rs = sequence (ruleBody m) rs
 
 -- a number without rules has no code of its own
 unfoldable pub entryBody : ℕ → ℕ → List Rule → List Instruction

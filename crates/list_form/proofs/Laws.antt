@@ -59,12 +59,12 @@ entry-length s at m d = rw (entry-is s at m d) (simp length-append (omega arith)
 
 pub entries-more : (s : List ℕ) (n at m d : ℕ) → (n ≡ 0 → ⊥)
     → entriesCode m d (entriesHere s n at) ≡ entryCode m d (entryHere s at) ++ entriesCode m d (entriesHere s (n - 1) (entryPast s at))
-unfolding entriesCode parts
+unfolding parts
 entries-more s zero at m d h = absurd (h refl)
 entries-more s (suc n) at m d h = let e : suc n - 1 ≡ n = omega arith in rw e
 
 pub entries-none : (s : List ℕ) (n at m d : ℕ) → n ≡ 0 → entriesCode m d (entriesHere s n at) ≡ []
-unfolding entriesCode parts
+unfolding parts
 entries-none s n at m d e = rw e
 
 -- ---- entries without rules

@@ -12,7 +12,7 @@ use Rattle.definitions.specs.declared.Condition.{Condition}
 use Rattle.definitions.specs.Word.{numberAt}
 use Rattle.definitions.specs.Machine.{instructionBytes, filterBytes}
 use Rattle.definitions.specs.RuleSet.{Rule}
-use Rattle.definitions.specs.Emitted.{jumpBy, return, conditionCode, reach, helpers, near, stepCode, stepDistance, conditionsCode, distance, ruleCode, rulesCode}
+use Rattle.definitions.specs.Emitted.{jumpBy, return, conditionCode, reach, helpers, near, stepCode, stepDistance, conditionsCode, distance, ruleCode, ruleBody, rulesCode}
 use Rattle.bpf.specs.Place.{place, placeBefore, Writing}
 use Rattle.bpf.proofs.Laws.{length-place, place-nil, length-filterBytes, put-first, put-2, puts-before, before-is, WritingBefore}
 use Rattle.set_view.specs.Parts.{behind, conditionHere, conditionsHere, parts, rulesHere, rulesPast}
@@ -95,7 +95,7 @@ distance-none s n at d e = rw e
 -- ---- a rule
 
 pub rule-is-long : (m : ℕ) (qs : Rule) → length (ruleCode m qs) ≡ 3 + length (conditionsCode qs 1)
-unfolding ruleCode
+unfolding ruleCode ruleBody
 rule-is-long m qs = simp length-append (omega arith)
 
 -- the return, the conditions in front of it, then the two jumps
@@ -104,7 +104,7 @@ pub rule-put : (l : List ℕ) (at last m : ℕ) (qs : Rule) → at + 8 * length 
     → place (place (placeBefore (place l last (instructionBytes (return m))) last (filterBytes (conditionsCode qs 1)))
     at (instructionBytes (jumpBy 1))) (at + 8) (instructionBytes (jumpBy (distance qs 1 + 1)))
     ≡ place l at (filterBytes (ruleCode m qs))
-unfolding ruleCode
+unfolding ruleCode ruleBody
 rule-put l at last m qs room e =
     let n = rule-is-long m qs in
     let b = conditionsCode qs 1 ++ (return m ∷ []) in
@@ -123,7 +123,7 @@ rule-put l at last m qs room e =
 pub rules-more : (s : List ℕ) (n at m : ℕ) → (n ≡ 0 → ⊥)
     → rulesCode m (rulesHere s n at)
     ≡ ruleCode m (conditionsHere s (numberAt 4 s at) (at + 4)) ++ rulesCode m (rulesHere s (n - 1) (at + 4 + 24 * numberAt 4 s at))
-unfolding parts rulesCode
+unfolding parts
 rules-more s zero at m h = absurd (h refl)
 rules-more s (suc n) at m h = let e : suc n - 1 ≡ n = omega arith in rw e
 
@@ -138,5 +138,5 @@ pub rule-room : (s : List ℕ) (n at m : ℕ) {out₀ : List ℕ} {start : ℕ} 
 rule-room s n at m h w fits = omega (arith, w .spot, w .long, rules-are-long s n at m h)
 
 pub rules-none : (s : List ℕ) (n at m : ℕ) → n ≡ 0 → rulesCode m (rulesHere s n at) ≡ []
-unfolding parts rulesCode
+unfolding parts
 rules-none s n at m e = rw e

@@ -42,12 +42,12 @@ rule-body-put l at last m qs e h =
 pub rule-bodies-more : (s : List ℕ) (n at m : ℕ) → (n ≡ 0 → ⊥)
     → ruleBodies m (rulesHere s n at)
     ≡ ruleBody m (conditionsHere s (numberAt 4 s at) (at + 4)) ++ ruleBodies m (rulesHere s (n - 1) (at + 4 + 24 * numberAt 4 s at))
-unfolding parts ruleBodies
+unfolding parts
 rule-bodies-more s zero at m h = absurd (h refl)
 rule-bodies-more s (suc n) at m h = let e : suc n - 1 ≡ n = omega arith in rw e
 
 pub rule-bodies-none : (s : List ℕ) (n at m : ℕ) → n ≡ 0 → ruleBodies m (rulesHere s n at) ≡ []
-unfolding parts ruleBodies
+unfolding parts
 rule-bodies-none s n at m e = rw e
 
 -- ---- an entry

@@ -81,7 +81,7 @@ module _ (c : Call) (m : ℕ) where
 
   pub rules-right : (n : Result) (rs : List Rule) (rest : List Instruction) → Each (Each IndexTaken) rs → Goes 0 rest c n
       → Goes 0 (ruleBodies m rs ++ rest) c (cond (anyHolds c rs) (returns m) n)
-  unfolding ruleBodies anyHolds
+  unfolding anyHolds
   rules-right n [] rest g h s = h s
   rules-right n (r ∷ rs) rest g h s =
       rw (append-assoc, cond-or) (rule-right (cond (anyHolds c rs) (returns m) n) r (ruleBodies m rs ++ rest) (g .0) (rules-right n rs rest (g .1) h) s)
@@ -106,7 +106,7 @@ conditions-open (q ∷ qs) d p o =
     (opens-append (stepCode q d) p (opens-append (conditionCode q (near d)) (helpers d) (onto-load (q .width) (highPart q (near d)) (lowPart q (near d)) (loads _ _) (loads _ _)))))
 
 pub rules-open : (m : ℕ) (r : Rule) (rs : List Rule) (p : List Instruction) → Opens (ruleBodies m (r ∷ rs) ++ p)
-unfolding ruleBodies ruleBody
+unfolding ruleBody
 rules-open m r rs p = opens-append (ruleBody m r ++ ruleBodies m rs) p (opens-append (ruleBody m r) (ruleBodies m rs) (conditions-open r 1 (return m ∷ []) (returning m [])))
 
 -- ---- the spans lead to it

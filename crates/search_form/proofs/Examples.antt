@@ -13,7 +13,7 @@ use Rattle.definitions.specs.Emitted.{load, maskBy, ifEqual, ifGreater, ifAtLea
 use Rattle.definitions.proofs.Examples.RuleSet.{compared, allow, errno, call}
 use Rattle.definitions.proofs.Examples.Emitted.{worked}
 use Rattle.search_form.specs.Search.{bodies, plainSpans, entrySpans, spans, endsBy, upTo, link, chain, singles, few, lowest, blockIf, grow, away, nearPlace, nearReturn, plantLeaf, openBlock, comparing, compareFirst, plant, ground, tree, planted, searchForm}
-use Rattle.definitions.specs.Emitted.{ruleBody, ruleBodies, entryBody}
+use Rattle.definitions.specs.Emitted.{ruleBody, entryBody}
 
 -- the worked rule set: 27 instructions, where the emitted form has 36
 worked-form : searchForm worked ≡
@@ -26,7 +26,7 @@ worked-form : searchForm worked ≡
     ∷ return allow ∷ load 0x1c ∷ ifGreater 1 3 0
     ∷ ifEqual 1 0 3 ∷ load 0x18 ∷ ifAtLeast 0 0 1
     ∷ return allow ∷ return (errno 1) ∷ return (errno 1) ∷ [])
-unfolding searchForm headCode numberCode guarded hasSecondTable planted tree ground plant compareFirst comparing openBlock plantLeaf nearReturn nearPlace away grow blockIf lowest few singles chain link upTo endsBy spans entrySpans plainSpans bodies entryBody ruleBodies ruleBody conditionsCode stepCode stepDistance helpers near conditionCode highPart lowPart highTests lowTests architectureWord
+unfolding searchForm headCode numberCode guarded hasSecondTable planted tree ground plant compareFirst comparing openBlock plantLeaf nearReturn nearPlace away grow blockIf lowest few singles chain link upTo endsBy spans entrySpans plainSpans bodies entryBody ruleBody conditionsCode stepCode stepDistance helpers near conditionCode highPart lowPart highTests lowTests architectureWord
 worked-form = refl
 
 abbrev plain : ℕ → Entry
@@ -53,7 +53,7 @@ mixed-form : searchForm mixed ≡
     ∷ ifEqual 55 1 0 ∷ ifEqual 60 0 5 ∷ return allow
     ∷ load 16 ∷ ifEqual 1 0 1 ∷ return allow
     ∷ return (errno 1) ∷ return (errno 1) ∷ [])
-unfolding searchForm headCode numberCode guarded hasSecondTable planted tree ground plant compareFirst comparing openBlock plantLeaf nearReturn nearPlace away grow blockIf lowest few singles chain link upTo endsBy spans entrySpans plainSpans bodies entryBody ruleBodies ruleBody conditionsCode stepCode stepDistance helpers near conditionCode highPart lowPart highTests lowTests architectureWord
+unfolding searchForm headCode numberCode guarded hasSecondTable planted tree ground plant compareFirst comparing openBlock plantLeaf nearReturn nearPlace away grow blockIf lowest few singles chain link upTo endsBy spans entrySpans plainSpans bodies entryBody ruleBody conditionsCode stepCode stepDistance helpers near conditionCode highPart lowPart highTests lowTests architectureWord
 mixed-form = refl
 
 -- native numbers only: a guard behind the load of the number, on x86_64 alone
@@ -95,10 +95,10 @@ measured p (e ∷ es) worst total = let n : ℕ = steps p (call (e .number) 0 0 
 
 -- 412 numbers, none beside another: 13.64 instructions in the mean
 isolated : measured (searchForm (listing x86-64 false (spread 412 2 0))) (spread 412 2 0) 0 0 ≡ 580 ∷ 15 ∷ 5620 ∷ []
-unfolding measured spread visits step stepAs kindOf kindIn codes fetch words intoA compute testHolds searchForm headCode numberCode guarded hasSecondTable planted tree ground plant compareFirst comparing openBlock plantLeaf nearReturn nearPlace away grow blockIf lowest few singles chain link upTo endsBy spans entrySpans plainSpans bodies entryBody ruleBodies ruleBody conditionsCode stepCode stepDistance helpers near conditionCode highPart lowPart highTests lowTests architectureWord
+unfolding measured spread visits step stepAs kindOf kindIn codes fetch words intoA compute testHolds searchForm headCode numberCode guarded hasSecondTable planted tree ground plant compareFirst comparing openBlock plantLeaf nearReturn nearPlace away grow blockIf lowest few singles chain link upTo endsBy spans entrySpans plainSpans bodies entryBody ruleBody conditionsCode stepCode stepDistance helpers near conditionCode highPart lowPart highTests lowTests architectureWord
 isolated = refl
 
 -- 0 to 411: one span
 beside : measured (searchForm (listing x86-64 false (spread 412 1 0))) (spread 412 1 0) 0 0 ≡ 7 ∷ 5 ∷ 2060 ∷ []
-unfolding measured spread visits step stepAs kindOf kindIn codes fetch words intoA compute testHolds searchForm headCode numberCode guarded hasSecondTable planted tree ground plant compareFirst comparing openBlock plantLeaf nearReturn nearPlace away grow blockIf lowest few singles chain link upTo endsBy spans entrySpans plainSpans bodies entryBody ruleBodies ruleBody conditionsCode stepCode stepDistance helpers near conditionCode highPart lowPart highTests lowTests architectureWord
+unfolding measured spread visits step stepAs kindOf kindIn codes fetch words intoA compute testHolds searchForm headCode numberCode guarded hasSecondTable planted tree ground plant compareFirst comparing openBlock plantLeaf nearReturn nearPlace away grow blockIf lowest few singles chain link upTo endsBy spans entrySpans plainSpans bodies entryBody ruleBody conditionsCode stepCode stepDistance helpers near conditionCode highPart lowPart highTests lowTests architectureWord
 beside = refl

@@ -104,7 +104,7 @@ conditions-simple (q ∷ qs) d =
     (simple-append (conditionCode q (near d)) (helpers d) (condition-simple (q .operator) (q .width) (q .index) (q .value) (q .mask) (near d)) (helpers-simple d))
 
 rules-simple : (m : ℕ) (rs : List Rule) (p : List Instruction) → Each Simple p → Each Simple (ruleBodies m rs ++ p)
-unfolding ruleBodies ruleBody
+unfolding ruleBody
 rules-simple m [] p g = g
 rules-simple m (r ∷ rs) p g =
     simple-append ((conditionsCode r 1 ++ (return m ∷ [])) ++ ruleBodies m rs) p
@@ -121,7 +121,7 @@ abbrev pub linearSteps : ℕ → ℕ → List Rule → Call → ℕ
 linearSteps m d rs c = steps (ruleBodies m rs ++ (return d ∷ [])) c
 
 linear-opens : (m d : ℕ) (rs : List Rule) → Opens (ruleBodies m rs ++ (return d ∷ []))
-linear-opens m d [] = unfold ruleBodies in returning d []
+linear-opens m d [] = returning d []
 linear-opens m d (r ∷ rs) = rules-open m r rs (return d ∷ [])
 
 linear-same : (m d : ℕ) (rs : List Rule) (s : State) (c : Call) → count 0 (ruleBodies m rs ++ (return d ∷ [])) s c ≡ linearSteps m d rs c

@@ -6,7 +6,7 @@ use Prim.Native.Nat.{ℕ}
 use Rattle.definitions.specs.declared.Operator.the-variants.{Eq, MaskedEq}
 use Rattle.definitions.specs.declared.Width.the-variants.{Dword, Qword}
 use Rattle.definitions.specs.RuleSet.{x86-64, architectureWord, hasSecondTable, Entry, RuleSet, guarded}
-use Rattle.definitions.specs.Emitted.{load, maskBy, ifEqual, ifGreater, ifAtLeast, return, highTests, lowTests, highPart, lowPart, conditionCode, helpers, near, stepCode, stepDistance, conditionsCode, numberCode, headCode, ruleBody, ruleBodies}
+use Rattle.definitions.specs.Emitted.{load, maskBy, ifEqual, ifGreater, ifAtLeast, return, highTests, lowTests, highPart, lowPart, conditionCode, helpers, near, stepCode, stepDistance, conditionsCode, numberCode, headCode, ruleBody}
 use Rattle.definitions.proofs.Examples.RuleSet.{compared}
 use Rattle.search_form.specs.Search.{plainSpans, endsBy, upTo, link, chain, singles, few, lowest, blockIf, grow, away, nearPlace, nearReturn, plantLeaf, openBlock, comparing, compareFirst, plant}
 use Rattle.search_form.specs.Rules.{isEquality, sameWidth, wordAt, half, looksAt, leftOf, alike, conditionLooks, looks, only, joining, addCase, byFirst, cases, layEntry, lay, grown, fronted, mismatching, oneByOne, searched, patterned, pattern, alikes, others, byWords, ruled, shorterOf, entryForm, bottom, rulesPlanted, rulesForm}
@@ -67,5 +67,5 @@ monitor-form : rulesForm monitor ≡
     ∷ ifEqual 9 0 1
     ∷ return 2147418112
     ∷ return 327681 ∷ [])
-unfolding rulesForm headCode numberCode guarded hasSecondTable architectureWord rulesPlanted bottom entryForm shorterOf ruled byWords others alikes pattern patterned searched oneByOne mismatching fronted grown lay layEntry cases byFirst addCase joining only looks conditionLooks alike leftOf looksAt half wordAt sameWidth isEquality plainSpans plant compareFirst comparing openBlock plantLeaf nearReturn nearPlace away grow blockIf lowest few singles chain link upTo endsBy ruleBodies ruleBody conditionsCode stepCode stepDistance helpers near conditionCode highPart lowPart highTests lowTests
+unfolding rulesForm headCode numberCode guarded hasSecondTable architectureWord rulesPlanted bottom entryForm shorterOf ruled byWords others alikes pattern patterned searched oneByOne mismatching fronted grown lay layEntry cases byFirst addCase joining only looks conditionLooks alike leftOf looksAt half wordAt sameWidth isEquality plainSpans plant compareFirst comparing openBlock plantLeaf nearReturn nearPlace away grow blockIf lowest few singles chain link upTo endsBy ruleBody conditionsCode stepCode stepDistance helpers near conditionCode highPart lowPart highTests lowTests
 monitor-form = refl

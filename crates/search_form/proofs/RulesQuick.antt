@@ -136,11 +136,10 @@ module _ (ks : List Look) where
       rw t e
 
 no-rules : (m d : ℕ) (c : Call) → linearMost c m d [] ≡ 1
-unfolding ruleBodies visits step stepAs kindOf kindIn codes
+unfolding visits step stepAs kindOf kindIn codes
 no-rules m d c = refl
 
 no-code : (m : ℕ) → length (ruleBodies m []) ≡ 0
-unfolding ruleBodies
 no-code m = refl
 
 -- a number's rules, all alike
@@ -197,7 +196,7 @@ conditions-least (q ∷ qs) f =
 
 module _ (m d : ℕ) where
   rules-least : (ks : List Look) (rs : List Rule) → Each (Fits ks) rs → length rs * (2 * length ks + 1) ≤ length (ruleBodies m rs)
-  unfolding ruleBodies ruleBody
+  unfolding ruleBody
   rules-least ks [] g = omega arith
   rules-least ks (r ∷ rs) g =
       omega (

@@ -154,7 +154,7 @@ module _ (m d : ℕ) where
       go (r ∷ rs) = unfold bodyCode in omega (arith, length-append (rulesCode m (r ∷ rs)) (return d ∷ []), rules-shorter m (r ∷ rs))
 
   entries-most : (es : List Entry) → casesSize linearSize es ≤ length (entriesCode m d es)
-  unfolding casesSize entriesCode
+  unfolding casesSize
   entries-most [] = omega arith
   entries-most (e ∷ es) = omega (arith, entry-most e, entries-most es, length-append (entryCode m d e) (entriesCode m d es))
 
@@ -173,7 +173,7 @@ module _ (m d : ℕ) where
 
   planted-shorter : (es : List Entry) → length (rulesPlanted m d es .code) ≤ length (numbersCode m d es)
   unfolding numbersCode
-  planted-shorter [] = rw rules-none (unfold entriesCode in omega arith)
+  planted-shorter [] = rw rules-none (omega arith)
   planted-shorter (e ∷ es) =
       unfold rulesPlanted in
       let x = grown-adds (casesSize linearSize (e ∷ es)) (bottom d) (lay (entryForm m d) (e ∷ es) (bottom d)) (lay-some (entryForm m d) e es (bottom d))

@@ -14,7 +14,7 @@ use Rattle.definitions.specs.RuleSet.{Rule, Entry, RuleSet, guarded}
 use Rattle.definitions.specs.Format.{joined, encodeCondition, encodeRule, encodeEntry, encode, Each, ConditionInRange, EntryInRange, InRange}
 use Rattle.definitions.specs.Answer.{indexTaken, all, indicesTaken}
 use Rattle.definitions.specs.Word.{bytesOf}
-use Rattle.definitions.specs.Emitted.{return, conditionsCode, ruleCode, rulesCode, bodyCode, entryCode, entriesCode, numbersCode, numberCode, headCode, emitted}
+use Rattle.definitions.specs.Emitted.{return, conditionsCode, ruleCode, ruleBody, bodyCode, entryCode, numbersCode, numberCode, headCode, emitted}
 use Rattle.theorems.specs.Shape.{LandsAs, Shaped}
 use Rattle.theorems.proofs.Tests.{both-true, true-both}
 use Rattle.theorems.proofs.Taken.{each-taken, scratch-taken, emitted-sound}
@@ -92,7 +92,7 @@ behind (x ∷ a) i j = ap (λ (p : List Instruction). x ∷ p) (behind a i j)
 
 only-shaped : (rs : RuleSet) (qs : Rule) → InRange rs → Small qs
     → Shaped (conditionsCode qs 1 ++ (return (rs .onMatch) ∷ return (rs .mismatch) ∷ return (rs .mismatch) ∷ []))
-unfolding emitted headCode numberCode guarded numbersCode entriesCode entryCode bodyCode rulesCode ruleCode Shaped
+unfolding emitted headCode numberCode guarded numbersCode entryCode bodyCode ruleCode ruleBody Shaped
 only-shaped rs qs r s =
     let h = emitted-sound (only rs qs) (only-ranged rs qs r s) (true-both (true-both (s .indices) refl) refl) .shaped in
     subst Shaped (behind (conditionsCode qs 1) (return (rs .onMatch)) (return (rs .mismatch))) (h .2 .2 .2 .2 .2 .2 .2)

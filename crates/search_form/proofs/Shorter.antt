@@ -17,7 +17,7 @@ use Rattle.search_form.proofs.Sizes.{need, needs, need-least, need-most
 -- ---- the rules, without two jumps for each
 
 pub rules-shorter : (m : ℕ) (rs : List Rule) → length (ruleBodies m rs) + 2 * length rs ≡ length (rulesCode m rs)
-unfolding ruleBodies rulesCode ruleBody ruleCode
+unfolding ruleBody ruleCode
 rules-shorter m [] = refl
 rules-shorter m (r ∷ rs) = simp length-append (omega (arith, rules-shorter m rs))
 
@@ -47,7 +47,7 @@ entry-shorter m d at e ss = go (e .rules)
         (omega (arith, alone-need (e .number) (toRules at), rules-shorter m (r ∷ rs)))
 
 entries-shorter : (m d : ℕ) (es : List Entry) → length (bodies m d es) + needs (spans m d es) ≤ length (entriesCode m d es) + 1
-unfolding bodies spans entriesCode
+unfolding bodies spans
 entries-shorter m d [] = unfold needs in omega arith
 entries-shorter m d (e ∷ es) =
     rw (length-append (entryCode m d e) (entriesCode m d es))
@@ -80,7 +80,7 @@ planted-none m d = refl
 
 planted-shorter : (m d : ℕ) (es : List Entry) → length (planted m d es) ≤ length (numbersCode m d es)
 unfolding numbersCode
-planted-shorter m d [] = rw planted-none (unfold entriesCode in omega arith)
+planted-shorter m d [] = rw planted-none (omega arith)
 planted-shorter m d (e ∷ es) =
     unfold planted tree in
     let x = tree-sized m d (spans m d (e ∷ es)) (ground m d (e ∷ es)) (ground-rooted m d (e ∷ es)) in

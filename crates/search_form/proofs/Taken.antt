@@ -300,7 +300,6 @@ module _ (rs : RuleSet) (ranged : InRange rs) where
       })
 
   pub rules-sound : (qss : List Rule) (rest : List Instruction) → Each Small qss → Sound 1 rest → Sound 1 (ruleBodies m qss ++ rest)
-  unfolding ruleBodies
   rules-sound [] rest s h = h
   rules-sound (qs ∷ qss) rest s h =
       rw (append-assoc (ruleBody m qs) (ruleBodies m qss) rest) (rule-sound qs (ruleBodies m qss ++ rest) (s .0) (rules-sound qss rest (s .1) h))

@@ -12,7 +12,7 @@ use Rattle.definitions.specs.declared.Width.{Width}
 use Rattle.definitions.specs.declared.Width.the-variants.{Dword, Qword}
 use Rattle.definitions.specs.declared.Condition.{Condition}
 use Rattle.definitions.specs.RuleSet.{Rule, Entry, guarded}
-use Rattle.definitions.specs.Emitted.{jumpBy, reach, highTests, lowTests, highPart, lowPart, conditionCode, helpers, near, stepCode, stepDistance, conditionsCode, ruleCode, rulesCode, bodyCode, entryCode, entriesCode, numbersCode, emitted}
+use Rattle.definitions.specs.Emitted.{jumpBy, reach, highTests, lowTests, highPart, lowPart, conditionCode, helpers, near, stepCode, stepDistance, conditionsCode, ruleCode, ruleBody, rulesCode, bodyCode, entryCode, entriesCode, numbersCode, emitted}
 use Rattle.theorems.specs.Statements.{Lengths}
 use Rattle.theorems.specs.Length.{conditionLength, conditionsLength, sum, ruleLength, bodyLength, entryLength, filterLength}
 use Rattle.theorems.proofs.Conditions.{compared}
@@ -59,11 +59,10 @@ unfolding conditionsCode
 length-step q qs d = rw (← length-conditions (q ∷ qs) d, ← length-conditions qs (stepDistance q d)) (length-append (conditionsCode qs (stepDistance q d)) (stepCode q d))
 
 pub length-rule-code : (m : ℕ) (qs : Rule) → length (ruleCode m qs) ≡ ruleLength qs
-unfolding ruleCode
+unfolding ruleCode ruleBody
 length-rule-code m qs = simp length-append (omega (arith, length-conditions qs 1))
 
 pub length-rules : (m : ℕ) (rs : List Rule) → length (rulesCode m rs) ≡ sum ruleLength rs
-unfolding rulesCode
 length-rules m [] = refl
 length-rules m (r ∷ rs) = rw (length-append, length-rule-code m r, length-rules m rs)
 
@@ -77,7 +76,6 @@ unfolding entryCode
 length-entry-code m d e = simp length-append (omega (arith, length-body m (e .rules)))
 
 pub length-entries : (m d : ℕ) (es : List Entry) → length (entriesCode m d es) ≡ sum entryLength es
-unfolding entriesCode
 length-entries m d [] = refl
 length-entries m d (e ∷ es) = rw (length-append, length-entry-code m d e, length-entries m d es)
 

@@ -12,7 +12,7 @@ use Rattle.definitions.specs.Machine.{Call, State, Result, returns, run, start,
 use Rattle.definitions.specs.RuleSet.{Rule, Entry, RuleSet, allHold, anyHolds, matches, listed}
 use Rattle.definitions.specs.Format.{Each}
 use Rattle.definitions.specs.Answer.{indicesTaken}
-use Rattle.definitions.specs.Emitted.{return, conditionsCode, distance, ruleCode, rulesCode, bodyCode, entryCode, entriesCode, numbersCode, emitted}
+use Rattle.definitions.specs.Emitted.{return, conditionsCode, distance, ruleCode, ruleBody, rulesCode, bodyCode, entryCode, numbersCode, emitted}
 use Rattle.theorems.specs.Statements.{Right}
 use Rattle.theorems.proofs.Tests.{each-of}
 use Rattle.theorems.proofs.Steps.{run-return, run-equal, skip1}
@@ -34,7 +34,7 @@ record Chained (c : Call) (y n z : Result) (b : Bool) (p : List Instruction) : T
 
 module _ (m : ℕ) (rest : List Instruction) (c : Call) (n z : Result) (miss : Goes 0 rest c n) (pass : Walks 1 rest c z) where
   rules-right : (rs : List Rule) → Each (Each IndexTaken) rs → Chained c (returns m) n z (anyHolds c rs) (rulesCode m rs ++ rest)
-  unfolding rulesCode anyHolds
+  unfolding anyHolds
   rules-right [] g = record { here = miss; past = pass }
   rules-right (r ∷ rs) g =
       let h = rules-right rs (g .1) in
@@ -45,7 +45,7 @@ module _ (m : ℕ) (rest : List Instruction) (c : Call) (n z : Result) (miss : G
       }
 
   body-right : (rs : List Rule) → Each (Each IndexTaken) rs → Chained c (returns m) n z (matches c rs) (bodyCode m rs ++ rest)
-  unfolding bodyCode matches ruleCode conditionsCode distance allHold
+  unfolding bodyCode matches ruleCode ruleBody conditionsCode distance allHold
   body-right [] g = record { here = rule-here m [] rest c n z tt miss pass; past = rule-past m [] rest c n z tt miss pass }
   body-right (r ∷ rs) g = rules-right (r ∷ rs) g
 
@@ -58,14 +58,14 @@ entry-right m d e p c {z} g w s at =
     rw (append-assoc, run-equal, h .here s, h .past s at, at)
 
 entries-right : (m d : ℕ) (es : List Entry) (c : Call) → Each EntryTaken es → Walks 0 (numbersCode m d es) c (returns (listed c m d es))
-unfolding numbersCode entriesCode listed
+unfolding numbersCode listed
 entries-right m d [] c g s at = run-return [] s c d
 entries-right m d (e ∷ es) c g s at =
     rw append-assoc (entry-right m d e (numbersCode m d es) c (g .0) (entries-right m d es c (g .1)) s at ∙ simp cond-returns)
 
 -- without entries it does not matter what was loaded
 none-right : (m d : ℕ) (es : List Entry) (c : Call) (s : State) → length es ≡ 0 → run 0 (numbersCode m d es) s c ≡ returns (listed c m d es)
-unfolding numbersCode entriesCode listed
+unfolding numbersCode listed
 none-right m d [] c s e = run-return [] s c d
 none-right m d (x ∷ es) c s e = absurd (omega arith)
 

@@ -13,7 +13,7 @@ use Rattle.definitions.specs.declared.Condition.{Condition}
 use Rattle.definitions.specs.Machine.{Call, State, Result, returns, run}
 use Rattle.definitions.specs.RuleSet.{Rule, holds, allHold}
 use Rattle.definitions.specs.Format.{Each}
-use Rattle.definitions.specs.Emitted.{jumpBy, return, reach, conditionCode, helpers, near, stepCode, stepDistance, conditionsCode, distance, ruleCode}
+use Rattle.definitions.specs.Emitted.{jumpBy, return, reach, conditionCode, helpers, near, stepCode, stepDistance, conditionsCode, distance, ruleCode, ruleBody}
 use Rattle.theorems.proofs.Steps.{run-jump, run-return, run-suc, skip1, skip2, skip-one}
 use Rattle.theorems.proofs.Conditions.{Goes, condition-right, cond-and}
 
@@ -95,9 +95,9 @@ module _ (m : ℕ) (qs : Rule) (rest : List Instruction) (c : Call) (n z : Resul
   built = conditions-built c (returns m) n z true qs 1 (return m ∷ rest) g base
 
   pub rule-here : Goes 0 (ruleCode m qs ++ rest) c (cond (allHold c qs) (returns m) n)
-  unfolding ruleCode
+  unfolding ruleCode ruleBody
   rule-here s = simp (append-assoc, run-jump, skip1) (rw and-true at (built .here s))
 
   pub rule-past : Walks 1 (ruleCode m qs ++ rest) c z
-  unfolding ruleCode
+  unfolding ruleCode ruleBody
   rule-past s e = simp (append-assoc, run-jump, skip1) (built .past s e)

@@ -19,7 +19,7 @@ use Rattle.definitions.specs.Kernel.{constantTaken, operandTaken, takenAs, each
 use Rattle.definitions.specs.RuleSet.{Architecture, x86-64, aarch64, riscv64, architectureWord, Rule, Entry, RuleSet, guarded, killProcess, oneOf, plainActions, numberedActions, isAction}
 use Rattle.definitions.specs.Format.{Each, MaskInRange, ConditionInRange, EntryInRange, InRange}
 use Rattle.definitions.specs.Answer.{indicesTaken}
-use Rattle.definitions.specs.Emitted.{jumpBy, ifEqual, load, return, reach, highTests, lowTests, highPart, lowPart, conditionCode, helpers, near, stepCode, stepDistance, conditionsCode, distance, ruleCode, rulesCode, bodyCode, entryCode, entriesCode, numbersCode, guard, numberCode, headCode, headed, emitted}
+use Rattle.definitions.specs.Emitted.{jumpBy, ifEqual, load, return, reach, highTests, lowTests, highPart, lowPart, conditionCode, helpers, near, stepCode, stepDistance, conditionsCode, distance, ruleCode, ruleBody, rulesCode, bodyCode, entryCode, numbersCode, guard, numberCode, headCode, headed, emitted}
 use Rattle.theorems.specs.Statements.{Taken}
 use Rattle.theorems.specs.Shape.{LandsAs, Shaped}
 use Rattle.theorems.proofs.Tests.{true-both, either-true, one-below, each-both}
@@ -220,7 +220,7 @@ conditions-sound (q ∷ qs) d p g h =
 
 module _ (m : ℕ) (hm : m < 2 ^ 32) where
   rule-sound : (qs : Rule) (rest : List Instruction) → Each Good qs → Sound 1 rest → Sound 1 (ruleCode m qs ++ rest)
-  unfolding ruleCode Shaped LandsAs kindOf kindIn codes
+  unfolding ruleCode ruleBody Shaped LandsAs kindOf kindIn codes
   rule-sound qs rest g h =
       rw (append-assoc (conditionsCode qs 1) (return m ∷ []) rest)
       (let x = conditions-sound qs 1 (return m ∷ rest) g (record { far = omega arith; sound = return-sound m 1 rest hm h }) in
@@ -234,12 +234,11 @@ module _ (m : ℕ) (hm : m < 2 ^ 32) where
       })
 
   rules-sound : (rs : List Rule) (rest : List Instruction) → Each (Each Good) rs → Sound 1 rest → Sound 1 (rulesCode m rs ++ rest)
-  unfolding rulesCode
   rules-sound [] rest g h = h
   rules-sound (r ∷ rs) rest g h = rw append-assoc (rule-sound r (rulesCode m rs ++ rest) (g .0) (rules-sound rs rest (g .1) h))
 
   body-sound : (rs : List Rule) (rest : List Instruction) → Each (Each Good) rs → Sound 1 rest → Sound 1 (bodyCode m rs ++ rest)
-  unfolding bodyCode ruleCode distance conditionsCode
+  unfolding bodyCode ruleCode ruleBody distance conditionsCode
   body-sound [] rest g h = rule-sound [] rest tt h
   body-sound (r ∷ rs) rest g h = rules-sound (r ∷ rs) rest g h
 
@@ -264,7 +263,7 @@ module _ (m : ℕ) (hm : m < 2 ^ 32) where
     GoodEntry e = (e .number < 2 ^ 32) × Each (Each Good) (e .rules)
 
     numbers-sound : (es : List Entry) → Each GoodEntry es → Sound 0 (numbersCode m d es)
-    unfolding numbersCode entriesCode
+    unfolding numbersCode
     numbers-sound [] g = return-last d hd
     numbers-sound (e ∷ es) g =
         rw append-assoc (entry-sound e (numbersCode m d es) (g .0 .0) (g .0 .1) (numbers-sound es (g .1)))

@@ -15,7 +15,7 @@ use Rattle.definitions.specs.Word.{bytesOf, numberOf, numberAt}
 use Rattle.definitions.specs.RuleSet.{x86-64, aarch64, architectureWord, oneOf, isAction, Rule, Entry, RuleSet, guarded, hasSecondTable}
 use Rattle.definitions.specs.Format.{architectureNumber, widthNumber, operatorNumber, encodeCondition, encodeRule, encodeEntry, encode, architectureOf, widthOf, operatorOf, maskTaken, times, conditionAt, ruleAt, entryAt, read, unflagged, nativeOf, headNumber}
 use Rattle.definitions.specs.Answer.{all, fault, nowhere, placeless, noFault, unless, faultsOf, conditionFaults, ruleFaults, entriesFaults, setFaults, filterFaults, firstWith, shortWith, lesser, leastOf, answer, answerBy, answerOf}
-use Rattle.definitions.specs.Emitted.{highTests, lowTests, highPart, lowPart, conditionCode, helpers, near, stepCode, stepDistance, conditionsCode, distance, ruleCode, rulesCode, bodyCode, entryCode, entriesCode, numbersCode, emitted, headCode, numberCode}
+use Rattle.definitions.specs.Emitted.{highTests, lowTests, highPart, lowPart, conditionCode, helpers, near, stepCode, stepDistance, conditionsCode, distance, ruleCode, ruleBody, bodyCode, entryCode, numbersCode, emitted, headCode, numberCode}
 use Rattle.definitions.proofs.Examples.RuleSet.{compared, allow, errno}
 
 -- the byte form, in full: aarch64, mismatch errno 1, match allow; number 257: argument 2 qword masked eq 4, mask 6
@@ -119,7 +119,7 @@ abbrev rowHolds : Row → Bool
 rowHolds r = let a = answerOf (r .bytes) (r .room) in eqb (a .code) (r .code) && eqb (a .count) (r .count)
 
 table-holds : all rowHolds table ≡ true
-unfolding answerOf answer leastOf lesser setFaults filterFaults entriesFaults ruleFaults conditionFaults faultsOf unless read entryAt ruleAt conditionAt times maskTaken operatorOf widthOf architectureOf unflagged nativeOf isAction oneOf numberAt numberOf encode encodeEntry encodeRule encodeCondition bytesOf architectureNumber headNumber widthNumber operatorNumber architectureWord emitted headCode numberCode guarded hasSecondTable numbersCode entriesCode entryCode bodyCode rulesCode ruleCode conditionsCode distance stepCode stepDistance helpers near conditionCode highPart lowPart highTests lowTests
+unfolding answerOf answer leastOf lesser setFaults filterFaults entriesFaults ruleFaults conditionFaults faultsOf unless read entryAt ruleAt conditionAt times maskTaken operatorOf widthOf architectureOf unflagged nativeOf isAction oneOf numberAt numberOf encode encodeEntry encodeRule encodeCondition bytesOf architectureNumber headNumber widthNumber operatorNumber architectureWord emitted headCode numberCode guarded hasSecondTable numbersCode entryCode bodyCode ruleCode ruleBody conditionsCode distance stepCode stepDistance helpers near conditionCode highPart lowPart highTests lowTests
 table-holds = refl
 
 -- 6: the limit itself, by the number of instructions alone
@@ -185,7 +185,7 @@ places = refl
 -- 4,096 instructions are short enough, one more is not: five for each number, five around them, eleven and twelve for the last
 longest : (shortWith smallest (replicate 816 (plain 0) ++ ruled (compared MaskedEq Qword 0 1 1 ∷ [])) ≡ true)
     × (shortWith smallest (replicate 816 (plain 0) ++ ruled (compared MaskedEq Dword 0 1 1 ∷ compared Eq Qword 0 1 0 ∷ [])) ≡ false)
-unfolding emitted headCode numberCode guarded hasSecondTable numbersCode entriesCode entryCode bodyCode rulesCode ruleCode conditionsCode distance stepCode stepDistance helpers near conditionCode highPart lowPart highTests lowTests
+unfolding emitted headCode numberCode guarded hasSecondTable numbersCode entryCode bodyCode ruleCode ruleBody conditionsCode distance stepCode stepDistance helpers near conditionCode highPart lowPart highTests lowTests
 longest = (refl, refl)
 
 too-long : firstWith (λ (es : List Entry). ltb (length es) 3) [] (replicate 5 (plain 0)) ≡ 2

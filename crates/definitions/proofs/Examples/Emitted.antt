@@ -15,7 +15,7 @@ use Rattle.definitions.specs.declared.Condition.{Condition}
 use Rattle.definitions.specs.Machine.{Call, Result, returns, stuck, words, fetch, codes, kindIn, kindOf, intoA, compute, testHolds, stepAs, step, run, visits, runs, steps}
 use Rattle.definitions.specs.RuleSet.{Architecture, x86-64, aarch64, riscv64, architectureWord, Entry, RuleSet, test, holds, allHold, anyHolds, matches, listed, meaning, guarded, hasSecondTable, inSecondTable}
 use Rattle.definitions.specs.Answer.{all}
-use Rattle.definitions.specs.Emitted.{load, maskBy, jumpBy, ifEqual, ifGreater, ifAtLeast, ifAnyBit, return, highTests, lowTests, highPart, lowPart, conditionCode, helpers, near, stepCode, stepDistance, conditionsCode, distance, ruleCode, rulesCode, bodyCode, entryCode, entriesCode, numbersCode, emitted, headCode, numberCode}
+use Rattle.definitions.specs.Emitted.{load, maskBy, jumpBy, ifEqual, ifGreater, ifAtLeast, ifAnyBit, return, highTests, lowTests, highPart, lowPart, conditionCode, helpers, near, stepCode, stepDistance, conditionsCode, distance, ruleCode, ruleBody, bodyCode, entryCode, numbersCode, emitted, headCode, numberCode}
 use Rattle.definitions.specs.Compiled.{guardSteps}
 use Rattle.definitions.proofs.Examples.RuleSet.{compared, allow, errno, callOn, call}
 
@@ -53,7 +53,7 @@ workedFilter =
     ∷ return allow ∷ return (errno 1) ∷ return (errno 1) ∷ []
 
 worked-emitted : emitted worked ≡ workedFilter
-unfolding emitted headCode numberCode guarded hasSecondTable numbersCode entriesCode entryCode bodyCode rulesCode ruleCode conditionsCode distance stepCode stepDistance helpers near conditionCode highPart lowPart highTests lowTests architectureWord
+unfolding emitted headCode numberCode guarded hasSecondTable numbersCode entryCode bodyCode ruleCode ruleBody conditionsCode distance stepCode stepDistance helpers near conditionCode highPart lowPart highTests lowTests architectureWord
 worked-emitted = refl
 
 -- a call, the action that it gets, and the instructions that are run for it
@@ -138,7 +138,7 @@ Nothing a w = emitted (record { architecture = a; nativeOnly = false; mismatch =
     ≡ load 4 ∷ ifEqual w 1 0 ∷ return 0x80000000 ∷ return allow ∷ []
 
 nothing-listed : Nothing x86-64 0xc000003e × Nothing aarch64 0xc00000b7 × Nothing riscv64 0xc00000f3
-unfolding emitted headCode numberCode guarded hasSecondTable numbersCode entriesCode architectureWord
+unfolding emitted headCode numberCode guarded hasSecondTable numbersCode architectureWord
 nothing-listed = (refl, refl, refl)
 
 -- native numbers only: a guard behind the load of the number, on x86_64 alone
@@ -152,7 +152,7 @@ guarded-numbers :
     ≡ load 4 ∷ ifEqual 0xc000003e 1 0 ∷ return 0x80000000 ∷ load 0 ∷ ifAnyBit 0x40000000 0 2 ∷ ifEqual 0xffffffff 1 0 ∷ return 0x80000000
     ∷ ifEqual 7 0 1 ∷ jumpBy 1 ∷ jumpBy 2 ∷ return (errno 1) ∷ return allow ∷ return allow ∷ [])
     × (emitted (native aarch64 []) ≡ load 4 ∷ ifEqual 0xc00000b7 1 0 ∷ return 0x80000000 ∷ return allow ∷ [])
-unfolding emitted headCode numberCode guarded hasSecondTable numbersCode entriesCode entryCode bodyCode architectureWord
+unfolding emitted headCode numberCode guarded hasSecondTable numbersCode entryCode bodyCode architectureWord
 guarded-numbers = (refl, refl, refl)
 
 -- what it takes of a run: one instruction of a native number, two of one with bit 30, and none where there is no guard
@@ -250,5 +250,5 @@ abbrev agrees : Call → Bool
 agrees c = gives (runs (emitted long) c) (meaning long c)
 
 long-agrees : all agrees (call 1 0 0 0 ∷ call 1 4 0 0 ∷ call 1 0 1 0 ∷ call 1 0 0 1 ∷ call 2 0 0 0 ∷ []) ≡ true
-unfolding run step stepAs kindOf kindIn codes fetch words intoA compute testHolds meaning guarded hasSecondTable inSecondTable listed matches anyHolds allHold holds test architectureWord emitted headCode numberCode numbersCode entriesCode entryCode bodyCode rulesCode ruleCode conditionsCode distance stepCode stepDistance helpers near conditionCode highPart lowPart highTests lowTests
+unfolding run step stepAs kindOf kindIn codes fetch words intoA compute testHolds meaning guarded hasSecondTable inSecondTable listed matches anyHolds allHold holds test architectureWord emitted headCode numberCode numbersCode entryCode bodyCode ruleCode ruleBody conditionsCode distance stepCode stepDistance helpers near conditionCode highPart lowPart highTests lowTests
 long-agrees = refl
