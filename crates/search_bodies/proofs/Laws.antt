@@ -9,12 +9,11 @@ use Rattle.definitions.specs.declared.Instruction.{Instruction}
 use Rattle.definitions.specs.Word.{numberAt}
 use Rattle.definitions.specs.Machine.{instructionBytes, filterBytes}
 use Rattle.definitions.specs.RuleSet.{Rule}
-use Rattle.definitions.specs.Emitted.{return, conditionsCode, ruleCode, rulesCode}
+use Rattle.definitions.specs.Emitted.{return, conditionsCode, ruleCode, rulesCode, ruleBody, ruleBodies, entryBody}
 use Rattle.bpf.specs.Place.{place, placeBefore, Writing}
 use Rattle.bpf.proofs.Laws.{put-first, puts-before, before-is}
 use Rattle.rule.proofs.Laws.{rule-is-long}
 use Rattle.search_form.specs.Search.{bodies}
-use Rattle.definitions.specs.Emitted.{ruleBody, ruleBodies, entryBody}
 use Rattle.search_form.proofs.Shorter.{rules-shorter}
 use Rattle.set_view.specs.Parts.{behind, conditionsHere, entriesHere, entriesPast, entryHere, entryPast, parts, rulesHere}
 use Rattle.set_view.proofs.Walk.{entry-further, entry-inside}

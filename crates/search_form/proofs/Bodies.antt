@@ -1,90 +1,30 @@
 -- The code of the rules behind the tree: it answers as the rules say, whatever was loaded before and whatever stands behind it, and the
 -- spans lead there.
 use mathlib.Core.Path.{_≡_, refl, _∙_}
-use mathlib.Core.Bool.{Bool, true, false, cond, _&&_, and-true}
+use mathlib.Core.Bool.{Bool, true, false, cond}
 use mathlib.Core.List.{List, [], _∷_, _++_, append-assoc}
 use Prim.Native.Nat.{ℕ, _+_, _-_}
 use native.Mathlib.Omega.{arith}
-use lib.Dec.{eqb, ltb}
+use lib.Dec.{eqb}
 use lib.ListN.{length, length-append}
 use Rattle.definitions.specs.declared.Instruction.{Instruction}
 use Rattle.definitions.specs.declared.Width.{Width}
 use Rattle.definitions.specs.declared.Width.the-variants.{Dword, Qword}
-use Rattle.definitions.specs.declared.Condition.{Condition}
-use Rattle.definitions.specs.Machine.{Call, State, Result, returns, setA, start}
-use Rattle.definitions.specs.RuleSet.{Rule, Entry, holds, allHold, anyHolds, matches, listed}
+use Rattle.definitions.specs.Machine.{Call, State, returns, setA, start}
+use Rattle.definitions.specs.RuleSet.{Rule, Entry, anyHolds, matches, listed, rulesOf}
 use Rattle.definitions.specs.Format.{Each}
-use Rattle.definitions.specs.Emitted.{jumpBy, return, reach, highPart, lowPart, onlyQword, conditionCode, helpers, near, stepCode, stepDistance, conditionsCode, distance}
-use Rattle.theorems.proofs.Steps.{run-jump, run-return, skip1, skip2, skip-one}
-use Rattle.theorems.proofs.Conditions.{Goes, condition-right, cond-and, cond-or}
+use Rattle.definitions.specs.Emitted.{return, highPart, lowPart, onlyQword, conditionCode, helpers, near, stepCode, stepDistance, conditionsCode, ruleBody, ruleBodies, entryBody}
+use Rattle.theorems.proofs.Steps.{run-return}
+use Rattle.theorems.proofs.Conditions.{Goes}
 use Rattle.theorems.proofs.Heads.{cond-returns}
-use Rattle.theorems.proofs.Rules.{IndexTaken, jump-over}
+use Rattle.theorems.proofs.Rules.{IndexTaken, body-right, rules-right}
 use Rattle.theorems.proofs.Right.{EntryTaken}
 use Rattle.search_form.specs.Search.{bodies, toMatch, toRules, Span, entrySpans, spans, ground}
-use Rattle.definitions.specs.Emitted.{ruleBody, ruleBodies, entryBody}
 use Rattle.definitions.specs.Compiled.{rulesSteps}
-use Rattle.definitions.specs.RuleSet.{rulesOf}
 use Rattle.search_form.proofs.Grow.{seek, Sorted}
 use Rattle.search_form.proofs.Spans.{seek-alone, seek-plain, Rising, spans-sorted}
 use Rattle.search_form.proofs.Steps.{count-return, count-within, Opens, loads, returning, count-opens, over-append}
 use Rattle.search_form.proofs.Found.{Ends, ends-over, Leads, leads-over, Ready}
-
--- ---- what a rule answers
-
--- Code p of a rule that is being built, with the distance d for the condition in front. `b`: the conditions placed so far hold;
--- `y`, `n`: the results where they do and where not.
-record Built (c : Call) (y n : Result) (b : Bool) (d : ℕ) (p : List Instruction) : Type 0 where
-  here : Goes 0 p c (cond b y n)
-  fail : Goes d p c n
-
-module _ (c : Call) (y n : Result) where
-  helpers-built : (b : Bool) (d : ℕ) (p : List Instruction) → Built c y n b d p → Built c y n b (near d) (helpers d ++ p)
-  unfolding helpers near
-  helpers-built b d p h = go (ltb reach d)
-    where
-      go : (t : Bool) → Built c y n b (cond t 1 d) (cond t (jumpBy 2 ∷ jumpBy (d + 1) ∷ jumpBy (d + 1) ∷ []) [] ++ p)
-      go true = record { here = λ s. simp (run-jump, skip2) (h .here s); fail = λ s. simp (skip1, run-jump, skip-one) (h .fail s) }
-      go false = h
-
-  step-built : (b : Bool) (q : Condition) (d : ℕ) (p : List Instruction) → IndexTaken q → Built c y n b d p
-      → Built c y n (holds c q && b) (stepDistance q d) (stepCode q d ++ p)
-  unfolding stepDistance stepCode
-  step-built b q d p g h =
-      let x = helpers-built b d p h in
-      rw append-assoc (record {
-        here = λ s. rw cond-and (condition-right q (near d) (helpers d ++ p) c g (x .here) (x .fail) s);
-        fail = λ s. rw jump-over (x .fail s);
-      })
-
-  regroup : (a b d : Bool) → (b && (a && d)) ≡ ((a && b) && d)
-  regroup true true d = refl
-  regroup true false d = refl
-  regroup false true d = refl
-  regroup false false d = refl
-
-  conditions-built : (b : Bool) (qs : Rule) (d : ℕ) (p : List Instruction) → Each IndexTaken qs → Built c y n b d p
-      → Built c y n (allHold c qs && b) (distance qs d) (conditionsCode qs d ++ p)
-  unfolding distance conditionsCode allHold
-  conditions-built b [] d p g h = h
-  conditions-built b (q ∷ qs) d p g h =
-      rw (append-assoc, ← regroup (holds c q) (allHold c qs) b)
-      (conditions-built (holds c q && b) qs (stepDistance q d) (stepCode q d ++ p) (g .1) (step-built b q d p (g .0) h))
-
-module _ (c : Call) (m : ℕ) where
-  rule-right : (n : Result) (qs : Rule) (rest : List Instruction) → Each IndexTaken qs → Goes 0 rest c n
-      → Goes 0 (ruleBody m qs ++ rest) c (cond (allHold c qs) (returns m) n)
-  unfolding ruleBody
-  rule-right n qs rest g h s =
-      let x = conditions-built c (returns m) n true qs 1 (return m ∷ rest) g
-      (record { here = λ t. run-return rest t c m; fail = λ t. skip1 rest t c (return m) ∙ h t }) in
-      rw append-assoc (rw and-true at (x .here s))
-
-  pub rules-right : (n : Result) (rs : List Rule) (rest : List Instruction) → Each (Each IndexTaken) rs → Goes 0 rest c n
-      → Goes 0 (ruleBodies m rs ++ rest) c (cond (anyHolds c rs) (returns m) n)
-  unfolding anyHolds
-  rules-right n [] rest g h s = h s
-  rules-right n (r ∷ rs) rest g h s =
-      rw (append-assoc, cond-or) (rule-right (cond (anyHolds c rs) (returns m) n) r (ruleBodies m rs ++ rest) (g .0) (rules-right n rs rest (g .1) h) s)
 
 -- ---- it asks for nothing that was loaded before
 
@@ -124,7 +64,7 @@ module _ (c : Call) (m d : ℕ) where
       let all : List Instruction = ruleBodies m (r ∷ rs) ++ (return d ∷ []) in
       let zero-left : length (all ++ rest) - length (all ++ rest) ≡ 0 = omega arith in
       let answers : (p : List Instruction) → Goes 0 (ruleBodies m (r ∷ rs) ++ (return d ∷ p)) c (returns (cond (anyHolds c (r ∷ rs)) m d)) =
-      λ p s. rules-right c m (returns d) (r ∷ rs) (return d ∷ p) g (λ t. run-return p t c d) s ∙ cond-returns (anyHolds c (r ∷ rs)) m d in
+      λ p s. rules-right m c (ruleBody m) (body-right m c) (returns d) (r ∷ rs) (return d ∷ p) g (λ t. run-return p t c d) s ∙ cond-returns (anyHolds c (r ∷ rs)) m d in
       record {
         pos = omega (arith, length-append all rest, length-append (ruleBodies m (r ∷ rs)) (return d ∷ []));
         inside = omega arith;

@@ -9,11 +9,10 @@ use Rattle.definitions.specs.declared.Operator.the-variants.{Eq}
 use Rattle.definitions.specs.declared.Width.the-variants.{Dword}
 use Rattle.definitions.specs.Machine.{words, fetch, codes, kindIn, kindOf, intoA, compute, testHolds, stepAs, step, visits, steps}
 use Rattle.definitions.specs.RuleSet.{Architecture, x86-64, aarch64, architectureWord, hasSecondTable, Entry, RuleSet, guarded}
-use Rattle.definitions.specs.Emitted.{load, maskBy, ifEqual, ifGreater, ifAtLeast, ifAnyBit, return, highTests, lowTests, highPart, lowPart, conditionCode, helpers, near, stepCode, stepDistance, conditionsCode, numberCode, headCode}
+use Rattle.definitions.specs.Emitted.{load, maskBy, ifEqual, ifGreater, ifAtLeast, ifAnyBit, return, highTests, lowTests, highPart, lowPart, conditionCode, helpers, near, stepCode, stepDistance, conditionsCode, numberCode, headCode, ruleBody, entryBody}
 use Rattle.definitions.proofs.Examples.RuleSet.{compared, allow, errno, call}
 use Rattle.definitions.proofs.Examples.Emitted.{worked}
 use Rattle.search_form.specs.Search.{bodies, plainSpans, entrySpans, spans, endsBy, upTo, link, chain, singles, few, lowest, blockIf, grow, away, nearPlace, nearReturn, plantLeaf, openBlock, comparing, compareFirst, plant, ground, tree, planted, searchForm}
-use Rattle.definitions.specs.Emitted.{ruleBody, entryBody}
 
 -- the worked rule set: 27 instructions, where the emitted form has 36
 worked-form : searchForm worked ≡

@@ -8,7 +8,6 @@ pub mod Found
 pub mod Bodies
 pub mod Right
 pub mod Quick
-pub mod Shape
 pub mod Taken
 pub mod Bytes
 pub mod Examples

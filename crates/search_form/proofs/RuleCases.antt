@@ -1,5 +1,5 @@
 -- Rules that are alike, by the values of the first word that they look at: what is left for the call's value holds where one of them does.
-use mathlib.Core.Path.{_≡_, refl, ap, _∙_, sym}
+use mathlib.Core.Path.{_≡_, refl, _∙_, sym}
 use mathlib.Core.Bool.{Bool, true, false, cond, _&&_, _||_, and-true}
 use mathlib.Core.List.{List, [], _∷_, _++_}
 use Prim.Native.Nat.{ℕ, suc, _+_, _≤_, _<_}
@@ -12,7 +12,7 @@ use Rattle.definitions.specs.declared.Operator.the-variants.{Eq, Ge, Gt, Le, Lt
 use Rattle.definitions.specs.declared.Width.{Width}
 use Rattle.definitions.specs.declared.Width.the-variants.{Dword, Qword}
 use Rattle.definitions.specs.declared.Condition.{Condition}
-use Rattle.definitions.specs.Word.{low, high}
+use Rattle.definitions.specs.Word.{low}
 use Rattle.definitions.specs.Machine.{Call}
 use Rattle.definitions.specs.RuleSet.{Rule, Entry, argument, cut, test, holds, allHold, anyHolds, matches, rulesOf}
 use Rattle.definitions.specs.Format.{Each}
@@ -20,7 +20,7 @@ use Rattle.theorems.proofs.Halves.{eqb-halves}
 use Rattle.theorems.proofs.Rules.{IndexTaken}
 use Rattle.theorems.proofs.Conditions.{compared}
 use Rattle.theorems.proofs.Tests.{both-true}
-use Rattle.search_form.specs.Rules.{isEquality, sameWidth, Look, half, looksAt, asDword, leftOf, alike, only, joining, valued, addCase, byFirst, cases, alikes, others}
+use Rattle.search_form.specs.Rules.{isEquality, sameWidth, Look, half, looksAt, leftOf, alike, only, joining, addCase, byFirst, cases, alikes, others}
 use Rattle.search_form.proofs.Cases.{cond-case}
 use Rattle.search_form.proofs.Spans.{Rising}
 
@@ -90,6 +90,10 @@ module _ (ks : List Look) where
       (λ y. cond-case (Rests (suc n)) (eqb v (e .number)) _ _
       (λ z. (joining-rest r (e .rules) n t h (g .0), rests-more n (suc n) es (omega arith) (g .1)))
       (λ z. (rest-more n (suc n) (e .rules) (omega arith) (g .0), add-rests v n r es t h (g .1))))
+
+  pub rests-fit : (n : ℕ) (es : List Entry) → Rests n es → Each (λ (e : Entry). Each (Fits ks) (e .rules)) es
+  rests-fit n [] g = tt
+  rests-fit n (e ∷ es) g = (g .0 .fits, rests-fit n es (g .1))
 
   pub found-rest : (x n : ℕ) (es : List Entry) → Rests n es → Rest ks n (rulesOf x es)
   unfolding rulesOf
@@ -307,10 +311,10 @@ module _ (c : Call) where
       go true = turn (allHold c r) (anyHolds c (others ks rs)) (anyHolds c (alikes ks rs))
       go false = assoc (allHold c r) (anyHolds c (others ks rs)) (anyHolds c (alikes ks rs))
 
-pub others-taken : (ks : List Look) (rs : List Rule) → Each (Each IndexTaken) rs → Each (Each IndexTaken) (others ks rs)
+pub others-each : (P : Rule → Type 0) (ks : List Look) (rs : List Rule) → Each P rs → Each P (others ks rs)
 unfolding others
-others-taken ks [] g = tt
-others-taken ks (r ∷ rs) g = cond-case (Each (Each IndexTaken)) (alike ks r) _ _ (λ y. others-taken ks rs (g .1)) (λ n. (g .0, others-taken ks rs (g .1)))
+others-each P ks [] g = tt
+others-each P ks (r ∷ rs) g = cond-case (Each P) (alike ks r) _ _ (λ y. others-each P ks rs (g .1)) (λ n. (g .0, others-each P ks rs (g .1)))
 
 some-of : (k : Look) (ks : List Look) (r : Rule) → alike (k ∷ ks) r ≡ true → 1 ≤ length r
 unfolding alike
@@ -324,7 +328,7 @@ alikes-fit k ks (r ∷ rs) g =
     cond-case (Each (Fits (k ∷ ks))) (alike (k ∷ ks) r) _ _
     (λ y. (record { taken = g .0; alike = y; some = some-of k ks r y }, alikes-fit k ks rs (g .1))) (λ n. alikes-fit k ks rs (g .1))
 
-pub alikes-taken : (ks : List Look) (rs : List Rule) → Each (Each IndexTaken) rs → Each (Each IndexTaken) (alikes ks rs)
+pub alikes-each : (P : Rule → Type 0) (ks : List Look) (rs : List Rule) → Each P rs → Each P (alikes ks rs)
 unfolding alikes
-alikes-taken ks [] g = tt
-alikes-taken ks (r ∷ rs) g = cond-case (Each (Each IndexTaken)) (alike ks r) _ _ (λ y. (g .0, alikes-taken ks rs (g .1))) (λ n. alikes-taken ks rs (g .1))
+alikes-each P ks [] g = tt
+alikes-each P ks (r ∷ rs) g = cond-case (Each P) (alike ks r) _ _ (λ y. (g .0, alikes-each P ks rs (g .1))) (λ n. alikes-each P ks rs (g .1))

@@ -1,8 +1,8 @@
 -- How many instructions a rule's code runs does not hang on the state that it is entered in; and code that is tried before other code takes
 -- what it takes by itself, and then what the other code takes.
-use mathlib.Core.Path.{_≡_, refl, ap, _∙_, sym}
-use mathlib.Core.Bool.{Bool, true, false, cond}
-use mathlib.Core.List.{List, [], _∷_, _++_}
+use mathlib.Core.Path.{_≡_, refl, ap, _∙_}
+use mathlib.Core.Bool.{cond}
+use mathlib.Core.List.{List, [], _∷_, _++_, append-assoc}
 use mathlib.Core.Option.{Option, none, some}
 use Prim.Native.Nat.{ℕ, zero, suc, _+_, _≤_}
 use native.Mathlib.Omega.{arith}
@@ -14,7 +14,6 @@ use Rattle.definitions.specs.declared.Operator.{Operator}
 use Rattle.definitions.specs.declared.Operator.the-variants.{Eq, Ge, Gt, Le, Lt, MaskedEq, Ne}
 use Rattle.definitions.specs.declared.Width.{Width}
 use Rattle.definitions.specs.declared.Width.the-variants.{Dword, Qword}
-use Rattle.definitions.specs.declared.Condition.{Condition}
 use Rattle.definitions.specs.Machine.{Call, State, Result, returns, stuck, Step, stop, next, setA, start, fetch, codes, kindIn, kindOf, intoA, compute, testHolds, stepAs, step, run, visits, steps}
 use Rattle.definitions.specs.RuleSet.{Rule}
 use Rattle.definitions.specs.Format.{Each}
@@ -107,13 +106,9 @@ rules-simple : (m : ℕ) (rs : List Rule) (p : List Instruction) → Each Simple
 unfolding ruleBody
 rules-simple m [] p g = g
 rules-simple m (r ∷ rs) p g =
-    simple-append ((conditionsCode r 1 ++ (return m ∷ [])) ++ ruleBodies m rs) p
-    (simple-append (conditionsCode r 1 ++ (return m ∷ [])) (ruleBodies m rs) (simple-append (conditionsCode r 1) (return m ∷ []) (conditions-simple r 1) (giving m, tt))
-    (all rs)) g
-  where
-    all : (rs : List Rule) → Each Simple (ruleBodies m rs)
-    all [] = tt
-    all (r ∷ rs) = simple-append (conditionsCode r 1 ++ (return m ∷ [])) (ruleBodies m rs) (simple-append (conditionsCode r 1) (return m ∷ []) (conditions-simple r 1) (giving m, tt)) (all rs)
+    rw append-assoc
+    (simple-append (conditionsCode r 1 ++ (return m ∷ [])) (ruleBodies m rs ++ p) (simple-append (conditionsCode r 1) (return m ∷ []) (conditions-simple r 1) (giving m, tt))
+    (rules-simple m rs p g))
 
 -- ---- what rules take by themselves, one by one
 

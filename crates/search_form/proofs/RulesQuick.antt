@@ -1,33 +1,31 @@
 -- QUICK, of rules that are alike, each with equalities on the same arguments: with at most 2 ^ j rules, a search takes for each word that is
 -- looked at a load and what a tree of 2 ^ j spans takes, and a return.
 use mathlib.Core.Path.{_≡_, refl, ap, ap₂, _∙_, sym, subst}
-use mathlib.Core.Bool.{Bool, true, false, cond, _&&_}
+use mathlib.Core.Bool.{true, _&&_}
 use mathlib.Core.List.{List, [], _∷_, _++_}
-use Prim.Native.Nat.{ℕ, zero, suc, _+_, _*_, _-_, _/_, _^_, _≤_, _<_, max}
+use Prim.Native.Nat.{ℕ, zero, suc, _+_, _*_, _-_, _/_, _^_, _≤_, max}
 use native.Mathlib.Omega.{arith}
 use native.Mathlib.Nat.{pow-suc, suc-mul}
-use lib.Dec.{eqb, leb, ltb}
+use lib.Dec.{eqb, leb}
 use lib.ListN.{length, length-append}
-use borrow.Author.Tests.{leb-true, leb-false, eqb-true, le-leb, eq-eqb, le-ltb}
-use Rattle.definitions.specs.declared.Operator.{Operator}
-use Rattle.definitions.specs.declared.Operator.the-variants.{Eq, Ge, Gt, Le, Lt, MaskedEq, Ne}
+use borrow.Author.Tests.{eqb-true, le-leb, eq-eqb, le-ltb}
 use Rattle.definitions.specs.declared.Width.{Width}
 use Rattle.definitions.specs.declared.Width.the-variants.{Dword, Qword}
 use Rattle.definitions.specs.declared.Condition.{Condition}
-use Rattle.definitions.specs.Machine.{Call, State, visits, steps, start, codes, kindIn, kindOf, stepAs, step}
+use Rattle.definitions.specs.Machine.{Call, visits, steps, codes, kindIn, kindOf, stepAs, step}
 use Rattle.definitions.specs.RuleSet.{Rule, Entry, RuleSet, rulesOf, spanCount}
 use Rattle.definitions.specs.Compiled.{guardSteps}
 use Rattle.definitions.specs.Format.{Each}
 use Rattle.definitions.specs.Answer.{ascending, indicesTaken}
-use Rattle.definitions.specs.Emitted.{return, ruleBodies, ruleBody, conditionCode, highPart, lowPart, highTests, lowTests, conditionsCode, stepCode, stepDistance, near, helpers}
-use Rattle.theorems.proofs.Conditions.{compared}
-use Rattle.theorems.proofs.Rules.{IndexTaken}
+use Rattle.definitions.specs.Emitted.{return, ruleBodies, ruleBody, conditionCode, conditionsCode, stepCode, stepDistance, near, helpers}
+use Rattle.theorems.specs.Length.{forWidth}
+use Rattle.theorems.proofs.Lengths.{length-condition-code, condition-bounds}
 use Rattle.theorems.proofs.Tests.{both-true, true-both}
 use Rattle.search_form.specs.Counts.{searchMost}
-use Rattle.search_form.specs.Rules.{isEquality, sameWidth, Look, half, looksAt, asDword, leftOf, alike, conditionLooks, looks, only, joining, addCase, byFirst, cases, searched, patterned, pattern, alikes, others, rulesMost, rulesForm}
+use Rattle.search_form.specs.Rules.{isEquality, sameWidth, Look, half, looksAt, asDword, leftOf, alike, conditionLooks, looks, only, joining, addCase, byFirst, cases, patterned, pattern, alikes, others, rulesMost, rulesForm}
 use Rattle.search_form.proofs.Cases.{cond-case}
 use Rattle.search_form.proofs.Found.{treeMost}
-use Rattle.search_form.proofs.RuleCases.{no, Fits, Rest, Rests, fits-none, fits-first, looks-index, cases-few, cases-some, cases-rest, found-rest, seen}
+use Rattle.search_form.proofs.RuleCases.{no, Fits, Rest, Rests, fits-none, fits-first, cases-few, cases-some, cases-rest, found-rest, seen}
 use Rattle.search_form.proofs.RulesRight.{halvings, doublings, linearMost, foundMost, searchedMost, wordsMost, ruledMost}
 use Rattle.search_form.proofs.RulesSizes.{linearSize, leafSize, casesSize, searchedSize, wordsSize, ruledSize, surely}
 use Rattle.search_form.proofs.RulesForm.{entryMost, numberMost, rules-form-quick}
@@ -164,22 +162,10 @@ module _ (m d : ℕ) (ks : List Look) where
 
 -- ---- one equality each, on a dword: it is sure that they are searched
 
-condition-least : (o : Operator) (w : Width) (i v x f : ℕ) → 2 * length (conditionLooks w i) ≤ length (conditionCode (compared o w i v x) f)
-unfolding conditionCode highPart lowPart highTests lowTests conditionLooks
-condition-least Eq Dword i v m f = omega arith
-condition-least Eq Qword i v m f = omega arith
-condition-least Ge Dword i v m f = omega arith
-condition-least Ge Qword i v m f = omega arith
-condition-least Gt Dword i v m f = omega arith
-condition-least Gt Qword i v m f = omega arith
-condition-least Le Dword i v m f = omega arith
-condition-least Le Qword i v m f = omega arith
-condition-least Lt Dword i v m f = omega arith
-condition-least Lt Qword i v m f = omega arith
-condition-least MaskedEq Dword i v m f = omega arith
-condition-least MaskedEq Qword i v m f = omega arith
-condition-least Ne Dword i v m f = omega arith
-condition-least Ne Qword i v m f = omega arith
+looks-two : (w : Width) (i : ℕ) → 2 * length (conditionLooks w i) ≡ forWidth w 2 4
+unfolding conditionLooks
+looks-two Dword i = refl
+looks-two Qword i = refl
 
 conditions-least : (qs : Rule) (f : ℕ) → 2 * length (looks qs) ≤ length (conditionsCode qs f)
 unfolding conditionsCode stepCode looks
@@ -190,7 +176,9 @@ conditions-least (q ∷ qs) f =
       length-append (conditionsCode qs (stepDistance q f)) (stepCode q f),
       length-append (conditionCode q (near f)) (helpers f),
       conditions-least qs (stepDistance q f),
-      condition-least (q .operator) (q .width) (q .index) (q .value) (q .mask) (near f),
+      length-condition-code q (near f),
+      condition-bounds (q .operator) (q .width),
+      looks-two (q .width) (q .index),
       length-append (conditionLooks (q .width) (q .index)) (looks qs),
     )
 

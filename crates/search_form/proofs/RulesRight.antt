@@ -1,10 +1,10 @@
 -- RIGHT, of rules that are searched: from the front of what is put for a number's rules a call gets what they mean, after what the rules
 -- that are tried take, and as many instructions as halving takes for each word that is looked at.
-use mathlib.Core.Path.{_≡_, refl, ap, _∙_, sym}
+use mathlib.Core.Path.{_≡_, refl, _∙_}
 use mathlib.Core.Bool.{Bool, true, false, cond, _||_}
-use mathlib.Core.List.{List, [], _∷_, _++_, append-assoc}
-use mathlib.Core.Option.{Option, some}
-use Prim.Native.Nat.{ℕ, zero, suc, _+_, _-_, _/_, _^_, _≤_, _<_}
+use mathlib.Core.List.{List, [], _∷_, _++_}
+use mathlib.Core.Option.{some}
+use Prim.Native.Nat.{ℕ, zero, suc, _+_, _-_, _/_, _^_, _≤_}
 use native.Mathlib.Omega.{arith}
 use native.Mathlib.Nat.{pow-suc}
 use lib.Dec.{eqb, leb}
@@ -16,11 +16,11 @@ use Rattle.definitions.specs.declared.Width.the-variants.{Dword, Qword}
 use Rattle.definitions.specs.Machine.{Call, State, Result, returns, setA, start, fetch, run, visits}
 use Rattle.definitions.specs.RuleSet.{Rule, Entry, argument, anyHolds, matches, rulesOf}
 use Rattle.definitions.specs.Format.{Each}
-use Rattle.definitions.specs.Emitted.{load, return, ruleBodies}
+use Rattle.definitions.specs.Emitted.{load, return, ruleBodies, ruleBody}
 use Rattle.theorems.proofs.Steps.{run-load, run-return, fetch-low, fetch-high}
 use Rattle.theorems.proofs.Conditions.{Goes, cond-or}
 use Rattle.theorems.proofs.Heads.{cond-returns}
-use Rattle.theorems.proofs.Rules.{IndexTaken}
+use Rattle.theorems.proofs.Rules.{IndexTaken, body-right, rules-right}
 use Rattle.search_form.specs.Search.{Span, toMatch, toRules, plainSpans, grow, Form, plant}
 use Rattle.search_form.specs.Rules.{Look, wordAt, half, cases, Laid, layEntry, lay, grown, fronted, mismatching, oneByOne, searched, pattern, alikes, others, byWords, ruled}
 use Rattle.search_form.proofs.Cases.{cond-case}
@@ -29,9 +29,8 @@ use Rattle.search_form.proofs.Spans.{Rising, seek-alone, seek-plain, pl
 use Rattle.search_form.proofs.Sizes.{Rooted, tree-sized}
 use Rattle.search_form.proofs.Steps.{count, count-load, count-return, Over, same, more, over-over, over-append}
 use Rattle.search_form.proofs.Found.{treeMost, Ends, ends-over, ends-more, ends-first, Leads, leads-over, Ready, ready-over, Searched, tree-found}
-use Rattle.search_form.proofs.Bodies.{rules-right}
 use Rattle.search_form.proofs.RuleSteps.{linearSteps, tried-count}
-use Rattle.search_form.proofs.RuleCases.{Fits, Rest, Rests, fits-none, index-taken, cases-rising, cases-some, cases-rest, seen, hits, cases-hold, split-hold, others-taken, alikes-fit, alikes-taken}
+use Rattle.search_form.proofs.RuleCases.{Fits, fits-none, index-taken, cases-rising, cases-some, cases-rest, seen, hits, cases-hold, split-hold, others-each, alikes-fit, alikes-each, rests-fit}
 
 -- ---- as many halvings as a number takes
 
@@ -115,11 +114,11 @@ module _ (c : Call) (m d : ℕ) where
       → Ends c s (s .A) refl (length (ruleBodies m rs ++ p)) (ruleBodies m rs ++ p) (cond (anyHolds c rs) (returns m) r) (linearMost rs + n - 1)
   tried rs p r n g l o h k s =
       let z : length (ruleBodies m rs ++ p) - length (ruleBodies m rs ++ p) ≡ 0 = omega arith in
-      let e = rules-right c m (returns d) rs (return d ∷ []) g (λ t. run-return [] t c d) s ∙ cond-returns (anyHolds c rs) m d in
+      let e = rules-right m c (ruleBody m) (body-right m c) (returns d) rs (return d ∷ []) g (λ t. run-return [] t c d) s ∙ cond-returns (anyHolds c rs) m d in
       record {
         pos = omega (arith, length-append (ruleBodies m rs) p);
         inside = omega arith;
-        goes = rw z (rules-right c m r rs p g h s);
+        goes = rw z (rules-right m c (ruleBody m) (body-right m c) r rs p g h s);
         upto = rw z (omega (arith, tried-count m d rs p s c _ n o e k));
       }
 
@@ -247,10 +246,6 @@ module _ (c : Call) (m d : ℕ) where
   searchedMost (k ∷ ks) rs =
       suc (foundMost (searchedMost ks) (rulesOf (seen c k) (cases (k .width) rs)) + treeMost (doublings (length (cases (k .width) rs))))
 
-  rests-fit : (ks : List Look) (n : ℕ) (es : List Entry) → Rests ks n es → Each (λ (e : Entry). Each (Fits ks) (e .rules)) es
-  rests-fit ks n [] g = tt
-  rests-fit ks n (e ∷ es) g = (g .0 .fits, rests-fit ks n es (g .1))
-
   lay-least : (put : List Rule → Form → Form) (es : List Entry) (f : Form) → 1 ≤ length es → 1 ≤ length (lay put es f .spans)
   lay-least put [] f o = absurd (omega arith)
   lay-least put (e ∷ es) f o = lay-some put e es f
@@ -293,7 +288,7 @@ module _ (c : Call) (m d : ℕ) where
 
   searched-any : (ks : List Look) (rs all : List Rule) (f : Form) → alikes ks all ≡ rs → Each (Each IndexTaken) all → 1 ≤ length rs → Rooted f → AnyReady f
       → Puts (given rs) (searchedMost ks rs) f (searched ks m d rs f)
-  searched-any [] rs all f q g any root ready = unfold searched searchedMost in linear-puts rs f (rw q at (alikes-taken [] all g)) any root ready
+  searched-any [] rs all f q g any root ready = unfold searched searchedMost in linear-puts rs f (rw q at (alikes-each (Each IndexTaken) [] all g)) any root ready
   searched-any (k ∷ ks) rs all f q g any root ready = searched-puts (k ∷ ks) rs f (rw q at (alikes-fit k ks all g)) any root ready
 
   searched-front : (ks : List Look) (rs : List Rule) (f : Form) → searched ks m d rs f .at ≡ length (searched ks m d rs f .code)
@@ -329,7 +324,7 @@ module _ (c : Call) (m d : ℕ) where
         ready = λ s. ready-over c s (s .A) refl m d h _ _ o (y .ready s);
         over = over-over (y .over) o;
         ends = λ s. rw (split-hold c ks rs, q, ← cond-returns (anyHolds c (others ks rs) || anyHolds c (a ∷ rest)) m d, cond-or, cond-returns (anyHolds c (a ∷ rest)) m d)
-            (tried (others ks rs) (h .code) (given (a ∷ rest)) (searchedMost ks (a ∷ rest)) (others-taken ks rs g) (omega (arith, y .ends s .pos, y .ends s .inside))
+            (tried (others ks rs) (h .code) (given (a ∷ rest)) (searchedMost ks (a ∷ rest)) (others-each (Each IndexTaken) ks rs g) (omega (arith, y .ends s .pos, y .ends s .inside))
             (front-goes h _ _ s (searched-front ks (a ∷ rest) f) (y .ends s) .2) (λ t. front-goes h _ _ t (searched-front ks (a ∷ rest) f) (y .ends t) .0)
             (λ t. front-goes h _ _ t (searched-front ks (a ∷ rest) f) (y .ends t) .1) s);
       }

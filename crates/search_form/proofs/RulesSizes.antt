@@ -1,21 +1,20 @@
 -- How long the code of searched rules is: by a bound that does not hang on where it stands; and the whole is never longer than the emitted form.
-use mathlib.Core.Path.{_≡_, refl, ap}
-use mathlib.Core.Bool.{Bool, true, false, cond, _&&_}
+use mathlib.Core.Path.{_≡_, refl}
+use mathlib.Core.Bool.{Bool, true, _&&_}
 use mathlib.Core.List.{List, [], _∷_, _++_}
-use Prim.Native.Nat.{ℕ, zero, suc, _+_, _*_, _≤_, _<_, min, max}
+use Prim.Native.Nat.{ℕ, suc, _+_, _≤_, max}
 use native.Mathlib.Omega.{arith}
 use lib.Dec.{leb}
 use lib.ListN.{length, length-append}
-use borrow.Author.Tests.{leb-true, leb-false, le-leb}
-use Rattle.definitions.specs.declared.Instruction.{Instruction}
-use Rattle.definitions.specs.RuleSet.{Rule, Entry, RuleSet}
-use Rattle.definitions.specs.Emitted.{load, return, ruleBodies, entryBody, entryCode, entriesCode, numbersCode, bodyCode, rulesCode, emitted}
-use Rattle.search_form.specs.Search.{Span, toMatch, toRules, alone, plainSpans, entrySpans, grow, Form, plant, chain, blockIf, openBlock, plantLeaf, nearReturn, away}
-use Rattle.search_form.specs.Rules.{Look, wordAt, cases, Laid, layEntry, lay, grown, fronted, mismatching, oneByOne, searched, pattern, alikes, others, byWords, ruled, rulesMost, shorterOf, entryForm, bottom, rulesPlanted, rulesForm}
+use borrow.Author.Tests.{leb-true, le-leb}
+use Rattle.definitions.specs.RuleSet.{Rule, Entry}
+use Rattle.definitions.specs.Emitted.{return, ruleBodies, entryCode, entriesCode, numbersCode, bodyCode, rulesCode, emitted}
+use Rattle.search_form.specs.Search.{toRules, grow, Form, plant, chain, blockIf, openBlock, plantLeaf, nearReturn, away}
+use Rattle.search_form.specs.Rules.{Look, cases, Laid, layEntry, lay, grown, fronted, mismatching, oneByOne, searched, pattern, alikes, others, byWords, ruled, rulesMost, shorterOf, entryForm, bottom, rulesPlanted, rulesForm}
 use Rattle.search_form.specs.Statements.{RulesShorter}
 use Rattle.theorems.proofs.Tests.{both-true}
 use Rattle.search_form.proofs.Cases.{cond-case}
-use Rattle.search_form.proofs.Sizes.{needs, need, lefts-least, Rooted, tree-sized}
+use Rattle.search_form.proofs.Sizes.{needs, lefts-least, Rooted, tree-sized}
 use Rattle.search_form.proofs.Shorter.{alone-need, plain-need, rules-shorter}
 use Rattle.search_form.proofs.RulesRight.{lay-some}
 

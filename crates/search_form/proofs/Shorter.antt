@@ -7,9 +7,8 @@ use native.Mathlib.Omega.{arith}
 use lib.ListN.{length, length-append}
 use borrow.Author.Tests.{eq-eqb}
 use Rattle.definitions.specs.RuleSet.{Rule, Entry}
-use Rattle.definitions.specs.Emitted.{return, ruleCode, rulesCode, bodyCode, entryCode, entriesCode, numbersCode, emitted}
+use Rattle.definitions.specs.Emitted.{return, ruleCode, rulesCode, bodyCode, entryCode, entriesCode, numbersCode, emitted, ruleBody, ruleBodies, entryBody}
 use Rattle.search_form.specs.Search.{bodies, Destination, toMatch, toRules, Span, alone, plainSpans, entrySpans, spans, chain, blockIf, grow, away, nearReturn, plantLeaf, openBlock, plant, ground, tree, planted, searchForm}
-use Rattle.definitions.specs.Emitted.{ruleBody, ruleBodies, entryBody}
 use Rattle.search_form.specs.Statements.{Shorter}
 use Rattle.search_form.proofs.Spans.{plain-case, spans-some}
 use Rattle.search_form.proofs.Sizes.{need, needs, need-least, need-most, lefts-least, Rooted, tree-sized}

@@ -1,29 +1,27 @@
 -- TAKEN: the kernel's checks pass on every search form of at most 4,096 instructions.
-use mathlib.Core.Path.{_≡_, refl}
+use mathlib.Core.Path.{_≡_}
 use mathlib.Core.Bool.{Bool, true, false, not, _&&_}
 use mathlib.Core.List.{List, [], _∷_, _++_, append-assoc}
-use Prim.Native.Nat.{ℕ, zero, suc, _+_, _-_, _/_, _≤_, _<_, _^_}
+use Prim.Native.Nat.{ℕ, zero, suc, _-_, _/_, _≤_, _<_, _^_}
 use native.Mathlib.Omega.{arith}
 use lib.Dec.{leb, ltb}
 use lib.ListN.{length, take, drop, length-append}
 use Rattle.definitions.specs.declared.Instruction.{Instruction}
 use Rattle.definitions.specs.Machine.{codes, kindIn, kindOf}
-use Rattle.definitions.specs.Kernel.{effectAs, effectOf, isReturn, endsInReturn}
+use Rattle.definitions.specs.Kernel.{endsInReturn}
 use Rattle.definitions.specs.RuleSet.{Rule, Entry, RuleSet}
 use Rattle.definitions.specs.Format.{Each, InRange}
 use Rattle.definitions.specs.Answer.{indicesTaken}
-use Rattle.definitions.specs.Emitted.{jumpBy, ifEqual, ifGreater, ifAtLeast, return, conditionsCode}
+use Rattle.definitions.specs.Emitted.{jumpBy, ifEqual, ifGreater, ifAtLeast, return, ruleBody, ruleBodies, entryBody}
 use Rattle.theorems.specs.Shape.{LandsAs, Shaped}
-use Rattle.theorems.proofs.Taken.{Sound, action-small, headed-sound}
+use Rattle.theorems.proofs.Sequence.{sequence-keeps}
+use Rattle.theorems.proofs.Taken.{Sound, ends-cons, return-sound, return-last, Good, GoodEntry, body-sound, action-small, good-entries, headed-sound, sound-taken}
 use Rattle.search_form.specs.Search.{jumpReach, blockReach, bodies, Destination, toMismatch, toMatch, toRules, Span, plainSpans, entrySpans, spans, Comparison, equal, atLeast, above, Tree, leaf, node, block, endsBy, upTo, link, chain, lowest, middle, fitsBlock, blockIf, grow, Form, Spot, away, nearPlace, nearReturn, plantLeaf, openBlock, comparing, compareFirst, plant, ground, tree, planted, searchForm}
-use Rattle.definitions.specs.Emitted.{ruleBody, ruleBodies, entryBody}
 use Rattle.search_form.specs.Statements.{Taken}
 use Rattle.search_form.proofs.Cases.{cond-case}
 use Rattle.search_form.proofs.Grow.{isSingle, grown}
 use Rattle.search_form.proofs.Spans.{plain-case}
 use Rattle.search_form.proofs.Sizes.{place-adds, return-adds, Near, place-near, return-near}
-use Rattle.search_form.proofs.Shape.{shaped-taken, Small, SmallEntry, rule-shaped, set-small}
-use Rattle.theorems.proofs.Taken.{ends-cons, ends-append}
 
 -- ---- one instruction in front
 
@@ -266,58 +264,26 @@ unfolding entrySpans FineTo
 entry-fine l n [] ss o h f = plain-fine l n ss h f
 entry-fine l n (r ∷ rs) ss o h f = (record { first = h; last = h; to = (o, omega arith) }, f)
 
--- ---- a set in range
+-- ---- the code of the rules, and the tree in front of it
 
-module _ (rs : RuleSet) (ranged : InRange rs) where
-  abbrev m : ℕ
-  m = rs .onMatch
+module _ (m d : ℕ) (hm : m < 2 ^ 32) (hd : d < 2 ^ 32) where
+  pub rules-sound : (qss : List Rule) (rest : List Instruction) → Each (Each Good) qss → Sound 1 rest → Sound 1 (ruleBodies m qss ++ rest)
+  rules-sound qss rest g h = sequence-keeps (Sound 1) (ruleBody m) (body-sound m hm) qss rest g h
 
-  abbrev d : ℕ
-  d = rs .mismatch
-
-  pub hm : m < 2 ^ 32
-  hm = action-small m (ranged .onMatch)
-
-  pub hd : d < 2 ^ 32
-  hd = action-small d (ranged .mismatch)
-
-  return-sound : (n : ℕ) (p : List Instruction) → Sound n p → Sound (n + 1) (return d ∷ p)
-  unfolding Shaped LandsAs kindOf kindIn codes
-  return-sound n p h = record {
-    shaped = (tt, (omega arith, omega arith, omega arith, hd), h .shaped);
-    ends = ends-cons (return d) p (h .ends);
-    long = (let x = h .long in omega arith);
-  }
-
-  rule-sound : (qs : Rule) (rest : List Instruction) → Small qs → Sound 1 rest → Sound 1 (ruleBody m qs ++ rest)
-  unfolding ruleBody
-  rule-sound qs rest s h =
-      rw (append-assoc (conditionsCode qs 1) (return m ∷ []) rest)
-      (record {
-        shaped = rule-shaped rs qs rest ranged s (h .long) (h .shaped) hm;
-        ends = ends-append (conditionsCode qs 1) (return m ∷ rest) (ends-cons (return m) rest (h .ends));
-        long = (let x = length-append (conditionsCode qs 1) (return m ∷ rest) in let y = h .long in omega arith);
-      })
-
-  pub rules-sound : (qss : List Rule) (rest : List Instruction) → Each Small qss → Sound 1 rest → Sound 1 (ruleBodies m qss ++ rest)
-  rules-sound [] rest s h = h
-  rules-sound (qs ∷ qss) rest s h =
-      rw (append-assoc (ruleBody m qs) (ruleBodies m qss) rest) (rule-sound qs (ruleBodies m qss ++ rest) (s .0) (rules-sound qss rest (s .1) h))
-
-  entry-sound : (qss : List Rule) (rest : List Instruction) → Each Small qss → Sound 0 rest → Sound 0 (entryBody m d qss ++ rest)
+  entry-sound : (qss : List Rule) (rest : List Instruction) → Each (Each Good) qss → Sound 0 rest → Sound 0 (entryBody m d qss ++ rest)
   unfolding entryBody
-  entry-sound [] rest s h = h
-  entry-sound (qs ∷ qss) rest s h =
+  entry-sound [] rest g h = h
+  entry-sound (qs ∷ qss) rest g h =
       rw (append-assoc (ruleBodies m (qs ∷ qss)) (return d ∷ []) rest)
-      (let x = rules-sound (qs ∷ qss) (return d ∷ rest) s (return-sound 0 rest h) in
+      (let x = rules-sound (qs ∷ qss) (return d ∷ rest) g (return-sound d 0 rest hd h) in
       record { shaped = x .shaped; ends = x .ends; long = (let y = x .long in omega arith) })
 
-  bodies-sound : (es : List Entry) → Each SmallEntry es → Sound 0 (bodies m d es)
-  unfolding bodies Shaped LandsAs kindOf kindIn codes endsInReturn effectOf effectAs isReturn
-  bodies-sound [] s = record { shaped = (tt, (omega arith, omega arith, omega arith, hd), tt); ends = refl; long = omega arith }
-  bodies-sound (e ∷ es) s = entry-sound (e .rules) (bodies m d es) (s .0 .1) (bodies-sound es (s .1))
+  bodies-sound : (es : List Entry) → Each GoodEntry es → Sound 0 (bodies m d es)
+  unfolding bodies
+  bodies-sound [] g = return-last d hd
+  bodies-sound (e ∷ es) g = entry-sound (e .rules) (bodies m d es) (g .0 .1) (bodies-sound es (g .1))
 
-  spans-fine : (es : List Entry) → Each SmallEntry es → Each (FineSpan (length (bodies m d es))) (spans m d es)
+  spans-fine : (es : List Entry) → Each GoodEntry es → Each (FineSpan (length (bodies m d es))) (spans m d es)
   unfolding spans bodies
   spans-fine [] s = tt
   spans-fine (e ∷ es) s =
@@ -326,7 +292,7 @@ module _ (rs : RuleSet) (ranged : InRange rs) where
       entry-fine (length (bodies m d (e ∷ es))) (e .number) (e .rules) (spans m d es) (omega arith) (s .0 .0)
       (spans-more (length (bodies m d es)) (length (bodies m d (e ∷ es))) (spans m d es) (omega arith) (spans-fine es (s .1)))
 
-  planted-laid : (es : List Entry) → Each SmallEntry es → Laid (ground m d es) (plant m d (tree m d es) (ground m d es))
+  planted-laid : (es : List Entry) → Each GoodEntry es → Laid (ground m d es) (plant m d (tree m d es) (ground m d es))
   planted-laid es s =
       let b = bodies-sound es s in
       plant-laid m d hm hd (tree m d es) (ground m d es) (unfold ground tree in tree-fine (length (bodies m d es)) (spans m d es) (spans-fine es s))
@@ -336,7 +302,7 @@ module _ (rs : RuleSet) (ranged : InRange rs) where
         mismatchReturn = b .long;
       })
 
-  planted-sound : (es : List Entry) → Each SmallEntry es → length (planted m d es) < 2 ^ 32 → Sound 0 (planted m d es)
+  planted-sound : (es : List Entry) → Each GoodEntry es → length (planted m d es) < 2 ^ 32 → Sound 0 (planted m d es)
   unfolding planted
   planted-sound es s l =
       let x = planted-laid es s in
@@ -347,7 +313,8 @@ unfolding searchForm
 form-sound rs r t l =
     let p : List Instruction = planted (rs .onMatch) (rs .mismatch) (rs .entries) in
     let n = simp length-append at l in
-    headed-sound rs p (planted-sound rs r (rs .entries) (set-small rs r t) (omega arith))
+    headed-sound rs p
+    (planted-sound (rs .onMatch) (rs .mismatch) (action-small (rs .onMatch) (r .onMatch)) (action-small (rs .mismatch) (r .mismatch)) (rs .entries) (good-entries rs r t) (omega arith))
 
 pub taken : Taken
-taken rs r t l = let x = form-sound rs r t l in shaped-taken (searchForm rs) (x .shaped) (x .ends) (x .long) l
+taken rs r t l = sound-taken (searchForm rs) (form-sound rs r t l) l

@@ -2,7 +2,7 @@
 use mathlib.Core.Path.{_≡_, refl}
 use mathlib.Core.Bool.{Bool, true, false, cond}
 use mathlib.Core.List.{List, [], _∷_}
-use Prim.Native.Nat.{ℕ, _+_}
+use Prim.Native.Nat.{ℕ, _+_, _≤_}
 use native.Mathlib.Omega.{arith}
 use lib.Dec.{ltb}
 use lib.ListN.{length, length-append}
@@ -14,7 +14,8 @@ use Rattle.definitions.specs.declared.Condition.{Condition}
 use Rattle.definitions.specs.RuleSet.{Rule, Entry, guarded}
 use Rattle.definitions.specs.Emitted.{jumpBy, reach, highTests, lowTests, highPart, lowPart, conditionCode, helpers, near, stepCode, stepDistance, conditionsCode, ruleCode, ruleBody, rulesCode, bodyCode, entryCode, entriesCode, numbersCode, emitted}
 use Rattle.theorems.specs.Statements.{Lengths}
-use Rattle.theorems.specs.Length.{conditionLength, conditionsLength, sum, ruleLength, bodyLength, entryLength, filterLength}
+use Rattle.theorems.specs.Length.{forWidth, conditionLength, conditionsLength, sum, ruleLength, bodyLength, entryLength, filterLength}
+use Rattle.theorems.proofs.Sequence.{length-sequence}
 use Rattle.theorems.proofs.Conditions.{compared}
 use Rattle.theorems.proofs.Heads.{length-head}
 
@@ -38,6 +39,24 @@ as-parts Ne Qword i v m f = refl
 pub length-condition-code : (q : Condition) (f : ℕ) → length (conditionCode q f) ≡ conditionLength (q .operator) (q .width)
 length-condition-code q f = as-parts (q .operator) (q .width) (q .index) (q .value) (q .mask) f
 
+-- it has two for each word that it looks at, at least, and six at most
+pub condition-bounds : (o : Operator) (w : Width) → (forWidth w 2 4 ≤ conditionLength o w) × (conditionLength o w ≤ 6)
+unfolding conditionLength
+condition-bounds Eq Dword = (omega arith, omega arith)
+condition-bounds Eq Qword = (omega arith, omega arith)
+condition-bounds Ge Dword = (omega arith, omega arith)
+condition-bounds Ge Qword = (omega arith, omega arith)
+condition-bounds Gt Dword = (omega arith, omega arith)
+condition-bounds Gt Qword = (omega arith, omega arith)
+condition-bounds Le Dword = (omega arith, omega arith)
+condition-bounds Le Qword = (omega arith, omega arith)
+condition-bounds Lt Dword = (omega arith, omega arith)
+condition-bounds Lt Qword = (omega arith, omega arith)
+condition-bounds MaskedEq Dword = (omega arith, omega arith)
+condition-bounds MaskedEq Qword = (omega arith, omega arith)
+condition-bounds Ne Dword = (omega arith, omega arith)
+condition-bounds Ne Qword = (omega arith, omega arith)
+
 length-helpers : (d : ℕ) → length (helpers d) ≡ cond (ltb reach d) 3 0
 unfolding helpers
 length-helpers d = go (ltb reach d)
@@ -58,13 +77,16 @@ pub length-step : (q : Condition) (qs : Rule) (d : ℕ) → conditionsLength (q 
 unfolding conditionsCode
 length-step q qs d = rw (← length-conditions (q ∷ qs) d, ← length-conditions qs (stepDistance q d)) (length-append (conditionsCode qs (stepDistance q d)) (stepCode q d))
 
+pub length-rule-body : (m : ℕ) (qs : Rule) → length (ruleBody m qs) ≡ 1 + conditionsLength qs 1
+unfolding ruleBody
+length-rule-body m qs = rw length-append (omega (arith, length-conditions qs 1))
+
 pub length-rule-code : (m : ℕ) (qs : Rule) → length (ruleCode m qs) ≡ ruleLength qs
-unfolding ruleCode ruleBody
-length-rule-code m qs = simp length-append (omega (arith, length-conditions qs 1))
+unfolding ruleCode
+length-rule-code m qs = omega (arith, length-rule-body m qs)
 
 pub length-rules : (m : ℕ) (rs : List Rule) → length (rulesCode m rs) ≡ sum ruleLength rs
-length-rules m [] = refl
-length-rules m (r ∷ rs) = rw (length-append, length-rule-code m r, length-rules m rs)
+length-rules m rs = length-sequence (ruleCode m) ruleLength (length-rule-code m) rs
 
 pub length-body : (m : ℕ) (rs : List Rule) → length (bodyCode m rs) ≡ bodyLength rs
 unfolding bodyCode bodyLength
@@ -76,8 +98,7 @@ unfolding entryCode
 length-entry-code m d e = simp length-append (omega (arith, length-body m (e .rules)))
 
 pub length-entries : (m d : ℕ) (es : List Entry) → length (entriesCode m d es) ≡ sum entryLength es
-length-entries m d [] = refl
-length-entries m d (e ∷ es) = rw (length-append, length-entry-code m d e, length-entries m d es)
+length-entries m d es = length-sequence (entryCode m d) entryLength (length-entry-code m d) es
 
 pub length-emitted : Lengths
 unfolding emitted numbersCode filterLength

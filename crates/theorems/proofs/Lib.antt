@@ -1,5 +1,6 @@
 pub mod Tests
 pub mod Halves
+pub mod Sequence
 pub mod Steps
 pub mod Conditions
 pub mod Rules

@@ -1,6 +1,6 @@
 -- RIGHT: the emitted filter returns, for every call, the action that its rule set means.
 use mathlib.Core.Path.{_≡_, refl, _∙_}
-use mathlib.Core.Bool.{Bool, true, cond}
+use mathlib.Core.Bool.{true, cond}
 use mathlib.Core.List.{List, [], _∷_, _++_, append-assoc}
 use Prim.Native.Nat.{ℕ}
 use native.Mathlib.Omega.{arith}
@@ -9,16 +9,16 @@ use lib.ListN.{length}
 use borrow.Author.Tests.{leb-true}
 use Rattle.definitions.specs.declared.Instruction.{Instruction}
 use Rattle.definitions.specs.Machine.{Call, State, Result, returns, run, start, setA}
-use Rattle.definitions.specs.RuleSet.{Rule, Entry, RuleSet, allHold, anyHolds, matches, listed}
+use Rattle.definitions.specs.RuleSet.{Rule, Entry, RuleSet, allHold, matches, listed}
 use Rattle.definitions.specs.Format.{Each}
 use Rattle.definitions.specs.Answer.{indicesTaken}
-use Rattle.definitions.specs.Emitted.{return, conditionsCode, distance, ruleCode, ruleBody, rulesCode, bodyCode, entryCode, numbersCode, emitted}
+use Rattle.definitions.specs.Emitted.{return, conditionsCode, distance, ruleCode, ruleBody, bodyCode, entryCode, numbersCode, emitted}
 use Rattle.theorems.specs.Statements.{Right}
 use Rattle.theorems.proofs.Tests.{each-of}
 use Rattle.theorems.proofs.Steps.{run-return, run-equal, skip1}
 use Rattle.theorems.proofs.Heads.{cond-returns, headed-right}
-use Rattle.theorems.proofs.Conditions.{Goes, cond-or}
-use Rattle.theorems.proofs.Rules.{IndexTaken, Walks, rule-here, rule-past}
+use Rattle.theorems.proofs.Conditions.{Goes}
+use Rattle.theorems.proofs.Rules.{IndexTaken, rule-right, rule-past, rules-right, rules-past}
 
 abbrev pub EntryTaken : Entry → Type 0
 EntryTaken e = Each (Each IndexTaken) (e .rules)
@@ -26,38 +26,31 @@ EntryTaken e = Each (Each IndexTaken) (e .rules)
 pub each-index : (rs : RuleSet) → indicesTaken rs ≡ true → Each EntryTaken (rs .entries)
 each-index rs h = each-of _ (λ e. each-of _ (each-of _ (λ q. leb-true (q .index) 5)) (e .rules)) (rs .entries) h
 
--- ---- code p in the chain of entries: it gives y or n as b says, and a call with another number walks past it to z
+-- ---- the rules of an entry: a call with another number walks past them
 
-record Chained (c : Call) (y n z : Result) (b : Bool) (p : List Instruction) : Type 0 where
-  here : Goes 0 p c (cond b y n)
-  past : Walks 1 p c z
-
-module _ (m : ℕ) (rest : List Instruction) (c : Call) (n z : Result) (miss : Goes 0 rest c n) (pass : Walks 1 rest c z) where
-  rules-right : (rs : List Rule) → Each (Each IndexTaken) rs → Chained c (returns m) n z (anyHolds c rs) (rulesCode m rs ++ rest)
-  unfolding anyHolds
-  rules-right [] g = record { here = miss; past = pass }
-  rules-right (r ∷ rs) g =
-      let h = rules-right rs (g .1) in
-      let n′ : Result = cond (anyHolds c rs) (returns m) n in
-      record {
-        here = λ s. rw (append-assoc, cond-or) (rule-here m r (rulesCode m rs ++ rest) c n′ z (g .0) (h .here) (h .past) s);
-        past = λ s e. rw append-assoc (rule-past m r (rulesCode m rs ++ rest) c n′ z (g .0) (h .here) (h .past) s e);
-      }
-
-  body-right : (rs : List Rule) → Each (Each IndexTaken) rs → Chained c (returns m) n z (matches c rs) (bodyCode m rs ++ rest)
+module _ (m : ℕ) (c : Call) (rest : List Instruction) where
+  rules-here : (n : Result) (rs : List Rule) → Each (Each IndexTaken) rs → Goes 0 rest c n → Goes 0 (bodyCode m rs ++ rest) c (cond (matches c rs) (returns m) n)
   unfolding bodyCode matches ruleCode ruleBody conditionsCode distance allHold
-  body-right [] g = record { here = rule-here m [] rest c n z tt miss pass; past = rule-past m [] rest c n z tt miss pass }
-  body-right (r ∷ rs) g = rules-right (r ∷ rs) g
+  rules-here n [] g h = rule-right m c n [] rest tt h
+  rules-here n (r ∷ rs) g h = rules-right m c (ruleCode m) (rule-right m c) n (r ∷ rs) rest g h
+
+  pass : (rs : List Rule) (s : State) → run 1 (bodyCode m rs ++ rest) s c ≡ run 1 rest s c
+  unfolding bodyCode ruleCode ruleBody conditionsCode distance
+  pass [] s = rule-past m c [] rest s
+  pass (r ∷ rs) s = rules-past m c (r ∷ rs) rest s
+
+-- through p, with its number in the accumulator, call c gets result r
+abbrev Walks : List Instruction → Call → Result → Type 0
+Walks p c r = (s : State) → s .A ≡ c .number → run 0 p s c ≡ r
 
 -- one entry, in front of the others, with the call's number in the accumulator
-entry-right : (m d : ℕ) (e : Entry) (p : List Instruction) (c : Call) {z : Result} → EntryTaken e → Walks 0 p c z
-    → Walks 0 (entryCode m d e ++ p) c (cond (eqb (c .number) (e .number)) (cond (matches c (e .rules)) (returns m) (returns d)) z)
+entry-right : (m d : ℕ) (e : Entry) (p : List Instruction) (c : Call) {z : Result} → EntryTaken e → Walks p c z
+    → Walks (entryCode m d e ++ p) c (cond (eqb (c .number) (e .number)) (cond (matches c (e .rules)) (returns m) (returns d)) z)
 unfolding entryCode
 entry-right m d e p c {z} g w s at =
-    let h = body-right m (return d ∷ p) c (returns d) z (λ t. run-return p t c d) (λ t q. skip1 p t c (return d) ∙ w t q) (e .rules) g in
-    rw (append-assoc, run-equal, h .here s, h .past s at, at)
+    rw (append-assoc, run-equal, rules-here m c (return d ∷ p) (returns d) (e .rules) g (λ t. run-return p t c d) s, pass m c (return d ∷ p) (e .rules) s, skip1, w s at, at)
 
-entries-right : (m d : ℕ) (es : List Entry) (c : Call) → Each EntryTaken es → Walks 0 (numbersCode m d es) c (returns (listed c m d es))
+entries-right : (m d : ℕ) (es : List Entry) (c : Call) → Each EntryTaken es → Walks (numbersCode m d es) c (returns (listed c m d es))
 unfolding numbersCode listed
 entries-right m d [] c g s at = run-return [] s c d
 entries-right m d (e ∷ es) c g s at =

@@ -1,7 +1,7 @@
--- A rule, with its helper jumps: it matches where all its conditions hold, goes on behind itself where one does not, and a call with
--- another number walks along the second jumps past it.
-use mathlib.Core.Path.{_≡_, refl, ap, _∙_, sym}
-use mathlib.Core.Bool.{Bool, true, false, cond, not, _&&_, _||_, and-true}
+-- A rule, with its helper jumps: its body matches where all its conditions hold and goes on behind itself where one does not, and so does
+-- the rule; a call with another number walks along the second jumps past it.
+use mathlib.Core.Path.{_≡_, refl, _∙_}
+use mathlib.Core.Bool.{Bool, true, false, cond, _&&_, and-true}
 use mathlib.Core.List.{List, [], _∷_, _++_, append-assoc}
 use Prim.Native.Nat.{ℕ, zero, suc, _+_, _≤_}
 use native.Mathlib.Nat.{add-zero, add-suc}
@@ -11,62 +11,63 @@ use lib.ListN.{length}
 use Rattle.definitions.specs.declared.Instruction.{Instruction}
 use Rattle.definitions.specs.declared.Condition.{Condition}
 use Rattle.definitions.specs.Machine.{Call, State, Result, returns, run}
-use Rattle.definitions.specs.RuleSet.{Rule, holds, allHold}
+use Rattle.definitions.specs.RuleSet.{Rule, holds, allHold, anyHolds}
 use Rattle.definitions.specs.Format.{Each}
-use Rattle.definitions.specs.Emitted.{jumpBy, return, reach, conditionCode, helpers, near, stepCode, stepDistance, conditionsCode, distance, ruleCode, ruleBody}
+use Rattle.definitions.specs.Emitted.{jumpBy, return, reach, conditionCode, helpers, near, stepCode, stepDistance, conditionsCode, distance, ruleBody, ruleCode, sequence, rulesCode}
 use Rattle.theorems.proofs.Steps.{run-jump, run-return, run-suc, skip1, skip2, skip-one}
-use Rattle.theorems.proofs.Conditions.{Goes, condition-right, cond-and}
+use Rattle.theorems.proofs.Conditions.{Goes, condition-right, cond-and, cond-or}
 
 -- what the code looks at: an argument that there is
 abbrev pub IndexTaken : Condition → Type 0
 IndexTaken q = q .index ≤ 5
 
--- from n instructions into p, with the call's number in the accumulator, call c gets result r
-abbrev pub Walks : ℕ → List Instruction → Call → Result → Type 0
-Walks n p c r = (s : State) → s .A ≡ c .number → run n p s c ≡ r
+-- ---- a jump by the distance in front of code comes to its end, and a jump by one more comes one further: k is 0 or 1
 
--- a jump over the whole of some code
-pub jump-over : (a p : List Instruction) (n : ℕ) (s : State) (c : Call) → run (n + length a) (a ++ p) s c ≡ run n p s c
-unfolding run
-jump-over [] p n s c = rw add-zero
-jump-over (i ∷ a) p n s c = rw add-suc (jump-over a p n s c)
+module _ (s : State) (c : Call) where
+  -- a jump over the whole of some code
+  jump-over : (a p : List Instruction) (n : ℕ) → run (n + length a) (a ++ p) s c ≡ run n p s c
+  unfolding run
+  jump-over [] p n = rw add-zero
+  jump-over (i ∷ a) p n = rw add-suc (jump-over a p n)
 
--- Code p of a rule that is being built, with the distance d for the condition in front. `b`: the conditions placed so far hold;
--- `y`, `n`: the results where they do and where not; `z`: the result of a call with another number, which walks past the rule.
-record Built (c : Call) (y n z : Result) (b : Bool) (d : ℕ) (p : List Instruction) : Type 0 where
-  here : Goes 0 p c (cond b y n)
-  fail : Goes d p c n
-  past : Walks (d + 1) p c z
-
-module _ (c : Call) (y n z : Result) where
-  -- the helper jumps, where there are any
-  helpers-built : (b : Bool) (d : ℕ) (p : List Instruction) → Built c y n z b d p → Built c y n z b (near d) (helpers d ++ p)
+  helpers-over : (d k : ℕ) (p : List Instruction) → k ≤ 1 → run (near d + k) (helpers d ++ p) s c ≡ run (d + k) p s c
   unfolding helpers near
-  helpers-built b d p h = go (ltb reach d)
+  helpers-over d k p = go (ltb reach d) k
     where
-      go : (t : Bool) → Built c y n z b (cond t 1 d) (cond t (jumpBy 2 ∷ jumpBy (d + 1) ∷ jumpBy (d + 1) ∷ []) [] ++ p)
-      go true = record {
-        here = λ s. simp (run-jump, skip2) (h .here s);
-        fail = λ s. simp (skip1, run-jump, skip-one) (h .fail s);
-        past = λ s e. simp (skip2, run-jump) (h .past s e);
-      }
-      go false = h
+      go : (t : Bool) (k : ℕ) → k ≤ 1 → run (cond t 1 d + k) (cond t (jumpBy 2 ∷ jumpBy (d + 1) ∷ jumpBy (d + 1) ∷ []) [] ++ p) s c ≡ run (d + k) p s c
+      go true zero h = simp (add-zero, skip1, run-jump, skip-one)
+      go true (suc zero) h = simp (skip2, run-jump)
+      go true (suc (suc k)) h = absurd (omega arith)
+      go false k h = refl
 
-  condition-built : (b : Bool) (q : Condition) (d : ℕ) (p : List Instruction) → IndexTaken q → Built c y n z b d p
-      → Built c y n z (holds c q && b) (d + length (conditionCode q d)) (conditionCode q d ++ p)
-  condition-built b q d p g h = record {
-    here = λ s. rw cond-and (condition-right q d p c g (h .here) (h .fail) s);
-    fail = λ s. rw jump-over (h .fail s);
-    past = λ s e.
-        let w : d + length (conditionCode q d) + 1 ≡ (d + 1) + length (conditionCode q d) = omega arith in
-        rw (w, jump-over) (h .past s e);
-  }
-
-  step-built : (b : Bool) (q : Condition) (d : ℕ) (p : List Instruction) → IndexTaken q → Built c y n z b d p
-      → Built c y n z (holds c q && b) (stepDistance q d) (stepCode q d ++ p)
+  step-over : (q : Condition) (d k : ℕ) (p : List Instruction) → k ≤ 1 → run (stepDistance q d + k) (stepCode q d ++ p) s c ≡ run (d + k) p s c
   unfolding stepDistance stepCode
-  step-built b q d p g h =
-      rw append-assoc (condition-built b q (near d) (helpers d ++ p) g (helpers-built b d p h))
+  step-over q d k p h =
+      let w : near d + length (conditionCode q (near d)) + k ≡ near d + k + length (conditionCode q (near d)) = omega arith in
+      rw (append-assoc, w, jump-over) (helpers-over d k p h)
+
+  conditions-over : (qs : Rule) (d k : ℕ) (p : List Instruction) → k ≤ 1 → run (distance qs d + k) (conditionsCode qs d ++ p) s c ≡ run (d + k) p s c
+  unfolding distance conditionsCode
+  conditions-over [] d k p h = refl
+  conditions-over (q ∷ qs) d k p h = rw append-assoc (conditions-over qs (stepDistance q d) k (stepCode q d ++ p) h ∙ step-over q d k p h)
+
+-- ---- what a rule answers: y where its conditions hold, n where not; b: those behind hold
+
+module _ (c : Call) (y n : Result) where
+  helpers-right : (d : ℕ) (p : List Instruction) (r : Result) → Goes 0 p c r → Goes 0 (helpers d ++ p) c r
+  unfolding helpers
+  helpers-right d p r h = go (ltb reach d)
+    where
+      go : (t : Bool) → Goes 0 (cond t (jumpBy 2 ∷ jumpBy (d + 1) ∷ jumpBy (d + 1) ∷ []) [] ++ p) c r
+      go true s = simp (run-jump, skip2) (h s)
+      go false s = h s
+
+  step-right : (b : Bool) (q : Condition) (d : ℕ) (p : List Instruction) → IndexTaken q → Goes 0 p c (cond b y n) → Goes d p c n
+      → Goes 0 (stepCode q d ++ p) c (cond (holds c q && b) y n)
+  unfolding stepCode
+  step-right b q d p g h f s =
+      rw (append-assoc, cond-and)
+      (condition-right q (near d) (helpers d ++ p) c g (helpers-right d p _ h) (λ t. simp add-zero at (helpers-over t c d 0 p (omega arith)) ∙ f t) s)
 
   regroup : (a b d : Bool) → (b && (a && d)) ≡ ((a && b) && d)
   regroup true true d = refl
@@ -74,30 +75,42 @@ module _ (c : Call) (y n z : Result) where
   regroup false true d = refl
   regroup false false d = refl
 
-  conditions-built : (b : Bool) (qs : Rule) (d : ℕ) (p : List Instruction) → Each IndexTaken qs → Built c y n z b d p
-      → Built c y n z (allHold c qs && b) (distance qs d) (conditionsCode qs d ++ p)
-  unfolding distance conditionsCode allHold
-  conditions-built b [] d p g h = h
-  conditions-built b (q ∷ qs) d p g h =
+  conditions-right : (b : Bool) (qs : Rule) (d : ℕ) (p : List Instruction) → Each IndexTaken qs → Goes 0 p c (cond b y n) → Goes d p c n
+      → Goes 0 (conditionsCode qs d ++ p) c (cond (allHold c qs && b) y n)
+  unfolding conditionsCode allHold
+  conditions-right b [] d p g h f = h
+  conditions-right b (q ∷ qs) d p g h f =
       rw (append-assoc, ← regroup (holds c q) (allHold c qs) b)
-      (conditions-built (holds c q && b) qs (stepDistance q d) (stepCode q d ++ p) (g .1) (step-built b q d p (g .0) h))
+      (conditions-right (holds c q && b) qs (stepDistance q d) (stepCode q d ++ p) (g .1) (step-right b q d p (g .0) h f)
+      (λ s. simp add-zero at (step-over s c q d 0 p (omega arith)) ∙ f s))
 
--- a rule in front of `rest`
-module _ (m : ℕ) (qs : Rule) (rest : List Instruction) (c : Call) (n z : Result) (g : Each IndexTaken qs) (miss : Goes 0 rest c n) (pass : Walks 1 rest c z) where
-  base : Built c (returns m) n z true 1 (return m ∷ rest)
-  base = record {
-    here = λ s. run-return rest s c m;
-    fail = λ s. skip1 rest s c (return m) ∙ miss s;
-    past = λ s e. run-suc rest s c (return m) 1 ∙ pass s e;
-  }
+-- code that stands for a rule in front of any other code
+abbrev pub RuleRight : ℕ → Call → (Rule → List Instruction) → Type 0
+RuleRight m c f = (n : Result) (qs : Rule) (rest : List Instruction) → Each IndexTaken qs → Goes 0 rest c n → Goes 0 (f qs ++ rest) c (cond (allHold c qs) (returns m) n)
 
-  built : Built c (returns m) n z (allHold c qs && true) (distance qs 1) (conditionsCode qs 1 ++ (return m ∷ rest))
-  built = conditions-built c (returns m) n z true qs 1 (return m ∷ rest) g base
+module _ (m : ℕ) (c : Call) where
+  pub body-right : RuleRight m c (ruleBody m)
+  unfolding ruleBody
+  body-right n qs rest g h s =
+      rw append-assoc
+      (rw and-true at (conditions-right c (returns m) n true qs 1 (return m ∷ rest) g (λ t. run-return rest t c m) (λ t. skip1 rest t c (return m) ∙ h t) s))
 
-  pub rule-here : Goes 0 (ruleCode m qs ++ rest) c (cond (allHold c qs) (returns m) n)
+  pub rule-right : RuleRight m c (ruleCode m)
+  unfolding ruleCode
+  rule-right n qs rest g h s = simp (run-jump, skip1) (body-right n qs rest g h s)
+
+  pub rule-past : (qs : Rule) (rest : List Instruction) (s : State) → run 1 (ruleCode m qs ++ rest) s c ≡ run 1 rest s c
   unfolding ruleCode ruleBody
-  rule-here s = simp (append-assoc, run-jump, skip1) (rw and-true at (built .here s))
+  rule-past qs rest s = simp (append-assoc, skip1, run-jump) (conditions-over s c qs 1 1 (return m ∷ rest) (omega arith) ∙ run-suc rest s c (return m) 1)
 
-  pub rule-past : Walks 1 (ruleCode m qs ++ rest) c z
-  unfolding ruleCode ruleBody
-  rule-past s e = simp (append-assoc, run-jump, skip1) (built .past s e)
+  -- rules, one behind the other
+  pub rules-right : (f : Rule → List Instruction) → RuleRight m c f → (n : Result) (rs : List Rule) (rest : List Instruction)
+      → Each (Each IndexTaken) rs → Goes 0 rest c n → Goes 0 (sequence f rs ++ rest) c (cond (anyHolds c rs) (returns m) n)
+  unfolding anyHolds
+  rules-right f one n [] rest g h s = h s
+  rules-right f one n (r ∷ rs) rest g h s =
+      rw (append-assoc, cond-or) (one (cond (anyHolds c rs) (returns m) n) r (sequence f rs ++ rest) (g .0) (rules-right f one n rs rest (g .1) h) s)
+
+  pub rules-past : (rs : List Rule) (rest : List Instruction) (s : State) → run 1 (rulesCode m rs ++ rest) s c ≡ run 1 rest s c
+  rules-past [] rest s = refl
+  rules-past (r ∷ rs) rest s = rw append-assoc (rule-past r (rulesCode m rs ++ rest) s ∙ rules-past rs rest s)

@@ -17,15 +17,17 @@ use Rattle.definitions.specs.declared.Condition.{Condition}
 use Rattle.definitions.specs.Machine.{Kind, ldAbs, ldLen, ldImm, ldMem, ldxLen, ldxImm, ldxMem, st, stx, tax, txa, neg, ja, retK, retA, unknown, alu, jump, codes, kindIn, kindOf}
 use Rattle.definitions.specs.Kernel.{constantTaken, operandTaken, takenAs, eachTaken, Effect, plain, reads, writes, jumps, branches, leaves, effectAs, effectOf, isReturn, endsInReturn, Words, noWord, everyWord, scratchNext, scratchTaken, accepts}
 use Rattle.definitions.specs.RuleSet.{Architecture, x86-64, aarch64, riscv64, architectureWord, Rule, Entry, RuleSet, guarded, killProcess, oneOf, plainActions, numberedActions, isAction}
-use Rattle.definitions.specs.Format.{Each, MaskInRange, ConditionInRange, EntryInRange, InRange}
+use Rattle.definitions.specs.Format.{Each, MaskInRange, ConditionInRange, InRange}
 use Rattle.definitions.specs.Answer.{indicesTaken}
-use Rattle.definitions.specs.Emitted.{jumpBy, ifEqual, load, return, reach, highTests, lowTests, highPart, lowPart, conditionCode, helpers, near, stepCode, stepDistance, conditionsCode, distance, ruleCode, ruleBody, rulesCode, bodyCode, entryCode, numbersCode, guard, numberCode, headCode, headed, emitted}
+use Rattle.definitions.specs.Emitted.{jumpBy, ifEqual, load, return, reach, highTests, lowTests, highPart, lowPart, conditionCode, helpers, near, stepCode, stepDistance, conditionsCode, distance, ruleCode, ruleBody, bodyCode, entryCode, numbersCode, guard, numberCode, headCode, headed, emitted}
 use Rattle.theorems.specs.Statements.{Taken}
 use Rattle.theorems.specs.Shape.{LandsAs, Shaped}
 use Rattle.theorems.proofs.Tests.{true-both, either-true, one-below, each-both}
+use Rattle.theorems.proofs.Sequence.{sequence-keeps}
 use Rattle.theorems.proofs.Conditions.{compared}
+use Rattle.theorems.proofs.Lengths.{length-condition-code, condition-bounds}
 use Rattle.theorems.proofs.Rules.{IndexTaken}
-use Rattle.theorems.proofs.Right.{EntryTaken, each-index}
+use Rattle.theorems.proofs.Right.{each-index}
 
 -- ---- code of this shape passes the checks
 
@@ -60,7 +62,7 @@ module _ (i : Instruction) (at n behind : ℕ) (e : n ≡ at + 1 + behind) where
   lands-taken (alu o x) h = (h, tt)
   lands-taken (jump t x) h = (true-both (lt-ltb (at + 1 + i .jt) n (omega arith)) (lt-ltb (at + 1 + i .jf) n (omega arith)), tt)
 
-pub each-taken : (at n : ℕ) (p : List Instruction) → n ≡ at + length p → Shaped p → eachTaken at n p ≡ true
+each-taken : (at n : ℕ) (p : List Instruction) → n ≡ at + length p → Shaped p → eachTaken at n p ≡ true
 unfolding eachTaken Shaped
 each-taken at n [] e h = refl
 each-taken at n (i ∷ p) e h =
@@ -76,7 +78,7 @@ scratch-on (jumps d) here beyond rest q again = again _ _
 scratch-on (branches d e) here beyond rest q again = again _ _
 scratch-on leaves here beyond rest q again = again _ _
 
-pub scratch-taken : (p : List Instruction) → Shaped p → (written : Words) (ahead : ℕ → Words) → scratchTaken written ahead p ≡ true
+scratch-taken : (p : List Instruction) → Shaped p → (written : Words) (ahead : ℕ → Words) → scratchTaken written ahead p ≡ true
 unfolding scratchTaken Shaped effectOf
 scratch-taken [] h written ahead = refl
 scratch-taken (i ∷ p) h written ahead =
@@ -99,7 +101,7 @@ pub ends-append : (a p : List Instruction) → endsInReturn p ≡ true → endsI
 ends-append [] p h = h
 ends-append (i ∷ a) p h = ends-cons i (a ++ p) (ends-append a p h)
 
-return-sound : (k n : ℕ) (p : List Instruction) → k < 2 ^ 32 → Sound n p → Sound (n + 1) (return k ∷ p)
+pub return-sound : (k n : ℕ) (p : List Instruction) → k < 2 ^ 32 → Sound n p → Sound (n + 1) (return k ∷ p)
 unfolding Shaped LandsAs kindOf kindIn codes
 return-sound k n p b h = record {
   shaped = (tt, (omega arith, omega arith, omega arith, b), h .shaped);
@@ -107,7 +109,7 @@ return-sound k n p b h = record {
   long = omega arith;
 }
 
-return-last : (k : ℕ) → k < 2 ^ 32 → Sound 0 (return k ∷ [])
+pub return-last : (k : ℕ) → k < 2 ^ 32 → Sound 0 (return k ∷ [])
 unfolding Shaped LandsAs kindOf kindIn codes endsInReturn effectOf effectAs isReturn
 return-last k b = record { shaped = (tt, (omega arith, omega arith, omega arith, b), tt); ends = refl; long = omega arith }
 
@@ -121,23 +123,6 @@ mask-small Le m h = omega arith
 mask-small Lt m h = omega arith
 mask-small MaskedEq m h = h
 mask-small Ne m h = omega arith
-
-few : (o : Operator) (w : Width) (i v m f : ℕ) → length (conditionCode (compared o w i v m) f) ≤ 6
-unfolding conditionCode highPart lowPart highTests lowTests
-few Eq Dword i v m f = omega arith
-few Eq Qword i v m f = omega arith
-few Ge Dword i v m f = omega arith
-few Ge Qword i v m f = omega arith
-few Gt Dword i v m f = omega arith
-few Gt Qword i v m f = omega arith
-few Le Dword i v m f = omega arith
-few Le Qword i v m f = omega arith
-few Lt Dword i v m f = omega arith
-few Lt Qword i v m f = omega arith
-few MaskedEq Dword i v m f = omega arith
-few MaskedEq Qword i v m f = omega arith
-few Ne Dword i v m f = omega arith
-few Ne Qword i v m f = omega arith
 
 condition-shaped : (o : Operator) (w : Width) (i v m f : ℕ) (rest : List Instruction) → i ≤ 5 → v < 2 ^ 64 → m < 2 ^ 64 → bitAnd v m < 2 ^ 64
     → f ≤ reach → f < length rest → Shaped rest → Shaped (conditionCode (compared o w i v m) f ++ rest)
@@ -186,8 +171,11 @@ helpers-sound d p h = go (ltb reach d) refl
     go false e = (h, omega (arith, ltb-false))
 
 -- a condition that has a byte form and looks at an argument that there is
-abbrev Good : Condition → Type 0
+abbrev pub Good : Condition → Type 0
 Good q = ConditionInRange q × IndexTaken q
+
+abbrev pub GoodEntry : Entry → Type 0
+GoodEntry e = (e .number < 2 ^ 32) × Each (Each Good) (e .rules)
 
 condition-sound : (q : Condition) (d : ℕ) (p : List Instruction) → Good q → Reach d p → d ≤ reach
     → Reach (d + length (conditionCode q d)) (conditionCode q d ++ p)
@@ -196,7 +184,7 @@ condition-sound q d p g h n =
     let x = h .sound .long in
     let l = length-append (conditionCode q d) p in
     record {
-      far = omega (arith, few (q .operator) (q .width) (q .index) (q .value) (q .mask) d);
+      far = omega (arith, length-condition-code q d, condition-bounds (q .operator) (q .width));
       sound = record {
         shaped =
             condition-shaped (q .operator) (q .width) (q .index) (q .value) (q .mask) d p (g .1) (g .0 .value) m (and-lt 64 (q .value) (q .mask) (g .0 .value) m)
@@ -219,38 +207,43 @@ conditions-sound (q ∷ qs) d p g h =
     rw append-assoc (conditions-sound qs (stepDistance q d) (stepCode q d ++ p) (g .1) (step-sound q d p (g .0) h))
 
 module _ (m : ℕ) (hm : m < 2 ^ 32) where
+  -- a rule's body, with the distance for the jumps in front of it
+  body-reach : (qs : Rule) (rest : List Instruction) → Each Good qs → Sound 1 rest → Reach (distance qs 1) (ruleBody m qs ++ rest)
+  unfolding ruleBody
+  body-reach qs rest g h = rw append-assoc (conditions-sound qs 1 (return m ∷ rest) g (record { far = omega arith; sound = return-sound m 1 rest hm h }))
+
+  pub body-sound : (qs : Rule) (rest : List Instruction) → Each Good qs → Sound 1 rest → Sound 1 (ruleBody m qs ++ rest)
+  body-sound qs rest g h =
+      let x = body-reach qs rest g h .sound in
+      record { shaped = x .shaped; ends = x .ends; long = omega (arith, x .long) }
+
   rule-sound : (qs : Rule) (rest : List Instruction) → Each Good qs → Sound 1 rest → Sound 1 (ruleCode m qs ++ rest)
-  unfolding ruleCode ruleBody Shaped LandsAs kindOf kindIn codes
+  unfolding ruleCode Shaped LandsAs kindOf kindIn codes
   rule-sound qs rest g h =
-      rw (append-assoc (conditionsCode qs 1) (return m ∷ []) rest)
-      (let x = conditions-sound qs 1 (return m ∷ rest) g (record { far = omega arith; sound = return-sound m 1 rest hm h }) in
+      let x = body-reach qs rest g h in
       let s = x .sound .shaped in
       let l = x .sound .long in
       let f = x .far in
       record {
         shaped = search arith depth 16;
-        ends = ends-append (jumpBy 1 ∷ jumpBy (distance qs 1 + 1) ∷ []) (conditionsCode qs 1 ++ (return m ∷ rest)) (x .sound .ends);
+        ends = ends-append (jumpBy 1 ∷ jumpBy (distance qs 1 + 1) ∷ []) (ruleBody m qs ++ rest) (x .sound .ends);
         long = omega arith;
-      })
+      }
 
-  rules-sound : (rs : List Rule) (rest : List Instruction) → Each (Each Good) rs → Sound 1 rest → Sound 1 (rulesCode m rs ++ rest)
-  rules-sound [] rest g h = h
-  rules-sound (r ∷ rs) rest g h = rw append-assoc (rule-sound r (rulesCode m rs ++ rest) (g .0) (rules-sound rs rest (g .1) h))
-
-  body-sound : (rs : List Rule) (rest : List Instruction) → Each (Each Good) rs → Sound 1 rest → Sound 1 (bodyCode m rs ++ rest)
+  rules-sound : (rs : List Rule) (rest : List Instruction) → Each (Each Good) rs → Sound 1 rest → Sound 1 (bodyCode m rs ++ rest)
   unfolding bodyCode ruleCode ruleBody distance conditionsCode
-  body-sound [] rest g h = rule-sound [] rest tt h
-  body-sound (r ∷ rs) rest g h = rules-sound (r ∷ rs) rest g h
+  rules-sound [] rest g h = rule-sound [] rest tt h
+  rules-sound (r ∷ rs) rest g h = sequence-keeps (Sound 1) (ruleCode m) rule-sound (r ∷ rs) rest g h
 
   -- ---- entries, and the whole
 
   module _ (d : ℕ) (hd : d < 2 ^ 32) where
-    entry-sound : (e : Entry) (rest : List Instruction) → e .number < 2 ^ 32 → Each (Each Good) (e .rules) → Sound 0 rest
-        → Sound 0 (entryCode m d e ++ rest)
+    entry-sound : (e : Entry) (rest : List Instruction) → GoodEntry e → Sound 0 rest → Sound 0 (entryCode m d e ++ rest)
     unfolding entryCode Shaped LandsAs kindOf kindIn codes
-    entry-sound e rest n g h =
+    entry-sound e rest g h =
         rw append-assoc
-        (let x = body-sound (e .rules) (return d ∷ rest) g (return-sound d 0 rest hd h) in
+        (let x = rules-sound (e .rules) (return d ∷ rest) (g .1) (return-sound d 0 rest hd h) in
+        let n = g .0 in
         let s = x .shaped in
         let l = x .long in
         record {
@@ -259,14 +252,9 @@ module _ (m : ℕ) (hm : m < 2 ^ 32) where
           long = omega arith;
         })
 
-    abbrev GoodEntry : Entry → Type 0
-    GoodEntry e = (e .number < 2 ^ 32) × Each (Each Good) (e .rules)
-
     numbers-sound : (es : List Entry) → Each GoodEntry es → Sound 0 (numbersCode m d es)
     unfolding numbersCode
-    numbers-sound [] g = return-last d hd
-    numbers-sound (e ∷ es) g =
-        rw append-assoc (entry-sound e (numbersCode m d es) (g .0 .0) (g .0 .1) (numbers-sound es (g .1)))
+    numbers-sound es g = sequence-keeps (Sound 0) (entryCode m d) entry-sound es (return d ∷ []) g (return-last d hd)
 
 -- ---- from what is known of a rule set
 
@@ -276,8 +264,9 @@ action-small w h =
     either-true (oneOf plainActions w) (oneOf numberedActions (w / 2 ^ 16)) (one-below (2 ^ 32) plainActions w refl)
     (λ q. let small = one-below (2 ^ 16) numberedActions (w / 2 ^ 16) refl q in omega arith) h
 
-good-entry : (e : Entry) → EntryInRange e → EntryTaken e → (e .number < 2 ^ 32) × Each (Each Good) (e .rules)
-good-entry e r t = (r .number, each-both (λ qs. each-both (λ q a b. (a, b)) qs) (e .rules) (r .rules) t)
+pub good-entries : (rs : RuleSet) → InRange rs → indicesTaken rs ≡ true → Each GoodEntry (rs .entries)
+good-entries rs r t =
+    each-both (λ e x y. (x .number, each-both (λ qs. each-both (λ q a b. (a, b)) qs) (e .rules) (x .rules) y)) (rs .entries) (r .entries) (each-index rs t)
 
 architecture-small : (a : Architecture) → architectureWord a < 2 ^ 32
 unfolding architectureWord
@@ -316,12 +305,14 @@ unfolding emitted
 emitted-sound rs r t =
     headed-sound rs (numbersCode (rs .onMatch) (rs .mismatch) (rs .entries))
     (numbers-sound (rs .onMatch) (action-small (rs .onMatch) (r .onMatch)) (rs .mismatch) (action-small (rs .mismatch) (r .mismatch)) (rs .entries)
-    (each-both good-entry (rs .entries) (r .entries) (each-index rs t)))
+    (good-entries rs r t))
+
+-- sound code that is not too long is taken
+pub sound-taken : (p : List Instruction) → Sound 0 p → length p ≤ 4096 → accepts p ≡ true
+unfolding accepts
+sound-taken p x n =
+    true-both (true-both (true-both (true-both (le-leb 1 (length p) (x .long)) (le-leb (length p) 4096 n))
+    (each-taken 0 (length p) p (omega arith) (x .shaped))) (x .ends)) (scratch-taken p (x .shaped) noWord (λ d. everyWord))
 
 pub taken : Taken
-unfolding accepts
-taken rs r t n =
-    let x = emitted-sound rs r t in
-    true-both (true-both (true-both (true-both (le-leb 1 (length (emitted rs)) (x .long)) (le-leb (length (emitted rs)) 4096 n))
-    (each-taken 0 (length (emitted rs)) (emitted rs) (omega arith) (x .shaped))) (x .ends))
-    (scratch-taken (emitted rs) (x .shaped) noWord (λ d. everyWord))
+taken rs r t n = sound-taken (emitted rs) (emitted-sound rs r t) n
