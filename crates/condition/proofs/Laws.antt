@@ -1,18 +1,16 @@
 -- Laws of a condition's instructions: how its parts make it up, and how long they are. Assumes nothing.
 use mathlib.Core.Path.{_≡_, refl, ap, _∙_}
-use mathlib.Core.List.{List, _++_}
+use mathlib.Core.List.{_++_}
 use Prim.Native.Nat.{ℕ, _+_, _≤_}
 use native.Mathlib.Omega.{arith}
 use lib.ListN.{length, length-append}
-use Rattle.definitions.specs.declared.Operator.{Operator}
-use Rattle.definitions.specs.declared.Operator.the-variants.{Eq, Ge, Gt, Le, Lt, MaskedEq, Ne}
 use Rattle.definitions.specs.declared.Width.{Width}
 use Rattle.definitions.specs.declared.Width.the-variants.{Dword, Qword}
 use Rattle.definitions.specs.declared.Condition.{Condition}
 use Rattle.definitions.specs.Emitted.{lowPart, highPart, conditionCode}
-use Rattle.theorems.specs.Length.{forWidth, conditionLength}
+use Rattle.theorems.specs.Length.{conditionLength}
 use Rattle.theorems.proofs.Conditions.{compared}
-use Rattle.theorems.proofs.Lengths.{length-condition-code}
+use Rattle.theorems.proofs.Lengths.{length-condition-code, condition-bounds}
 
 -- ---- a dword has the low part alone, a qword both
 
@@ -47,19 +45,5 @@ low-fits q f = go (q .width) refl
     go Dword e = rw (dword-is q f e, low-long q f) (omega arith)
     go Qword e = rw (qword-is q f e, length-append, low-long q f) (omega arith)
 
-short : (w : Width) (a b : ℕ) → a ≤ 6 → b ≤ 6 → forWidth w a b ≤ 6
-short Dword a b p q = p
-short Qword a b p q = q
-
-at-most-six : (o : Operator) (w : Width) → conditionLength o w ≤ 6
-unfolding conditionLength
-at-most-six Eq w = short w 2 4 (omega arith) (omega arith)
-at-most-six Ge w = short w 2 5 (omega arith) (omega arith)
-at-most-six Gt w = short w 2 5 (omega arith) (omega arith)
-at-most-six Le w = short w 2 5 (omega arith) (omega arith)
-at-most-six Lt w = short w 2 5 (omega arith) (omega arith)
-at-most-six MaskedEq w = short w 3 6 (omega arith) (omega arith)
-at-most-six Ne w = short w 2 4 (omega arith) (omega arith)
-
 pub condition-short : (q : Condition) (f : ℕ) → length (conditionCode q f) ≤ 6
-condition-short q f = rw (length-condition-code q f) (at-most-six (q .operator) (q .width))
+condition-short q f = rw (length-condition-code q f) (condition-bounds (q .operator) (q .width) .1)

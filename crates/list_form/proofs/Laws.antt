@@ -1,24 +1,20 @@
 -- Laws of a filter's instructions and of the places that its entries are read from: one turn of the loop, its end, and how the parts
 -- make up the whole. Assumes nothing.
 use mathlib.Core.Path.{_≡_, refl, ap}
-use mathlib.Core.Bool.{true, false, not}
 use mathlib.Core.List.{List, [], _∷_, _++_, append-assoc}
-use Prim.Native.Nat.{ℕ, zero, suc, _+_, _-_, _*_, _≤_, _<_}
+use Prim.Native.Nat.{ℕ, zero, suc, _+_, _-_, _*_, _≤_}
 use native.Mathlib.Omega.{arith}
-use lib.Dec.{eqb}
 use lib.ListN.{length, length-append}
-use borrow.Author.Tests.{eq-eqb, eqb-true}
 use Rattle.definitions.specs.declared.Instruction.{Instruction}
 use Rattle.definitions.specs.Word.{numberAt}
 use Rattle.definitions.specs.Machine.{instructionBytes, filterBytes}
 use Rattle.definitions.specs.RuleSet.{guarded}
 use Rattle.definitions.specs.Emitted.{jumpBy, ifEqual, return, rulesCode, bodyCode, entryCode, entriesCode, numbersCode, headCode, headed, emitted}
-use Rattle.theorems.proofs.Tests.{both-true}
 use Rattle.bpf.specs.Place.{place}
 use Rattle.bpf.proofs.Laws.{put-first, put-next, puts-append}
 use Rattle.set_view.specs.Names.{guardsBy, namedArchitecture}
-use Rattle.set_view.specs.Parts.{behind, entriesHere, entriesPast, entryHere, entryPast, parts, plainHere, rulesHere, rulesPast, setHere}
-use Rattle.set_view.proofs.Walk.{parts-many, behind-none, rules-further}
+use Rattle.set_view.specs.Parts.{entriesHere, entryHere, entryPast, parts, rulesHere, setHere}
+use Rattle.set_view.proofs.Walk.{parts-more, parts-none, parts-many}
 
 -- ---- an instruction, a run of them, and an instruction
 
@@ -59,13 +55,10 @@ entry-length s at m d = rw (entry-is s at m d) (simp length-append (omega arith)
 
 pub entries-more : (s : List ℕ) (n at m d : ℕ) → (n ≡ 0 → ⊥)
     → entriesCode m d (entriesHere s n at) ≡ entryCode m d (entryHere s at) ++ entriesCode m d (entriesHere s (n - 1) (entryPast s at))
-unfolding parts
-entries-more s zero at m d h = absurd (h refl)
-entries-more s (suc n) at m d h = let e : suc n - 1 ≡ n = omega arith in rw e
+entries-more s n at m d h = ap (entriesCode m d) (parts-more (entryHere s) (entryPast s) n at h)
 
 pub entries-none : (s : List ℕ) (n at m d : ℕ) → n ≡ 0 → entriesCode m d (entriesHere s n at) ≡ []
-unfolding parts
-entries-none s n at m d e = rw e
+entries-none s n at m d e = ap (entriesCode m d) (parts-none (entryHere s) (entryPast s) n at e)
 
 -- ---- entries without rules
 

@@ -1,7 +1,7 @@
 // A whole filter from a rule set's bytes, which the caller has shown to be in the format. A part's length is known only once it is
 // written, so each part answers the places behind it.
 ghost use mathlib.Core.Path.{_≡_};
-ghost use mathlib.Core.List.{[], _∷_};
+ghost use mathlib.Core.List.{[]};
 ghost use mathlib.Core.Bool.{true};
 ghost use Prim.Native.Nat.{_+_, _-_, _*_, _≤_, _<_};
 ghost use lib.ListN.{length};
@@ -41,7 +41,7 @@ fn put_body(out: &mut [u8], s: &[u8], n: u32, from: usize, at: usize, m: u32) ->
             past: from,
         };
     }
-    rule::put_rules(out, s, n, from, at, m)
+    rule::put_rules(out, s, n, from, at, m, true)
 }
 
 // Writes an entry at a place. Match action m, mismatch action d.

@@ -1,21 +1,21 @@
--- Laws of a rule's instructions and of the places that it is read from: one turn of each loop, and its end. Assumes nothing.
+-- Laws of a rule's instructions and of the places that it is read from: one turn of each loop, and its end.
 use mathlib.Core.Path.{_≡_, refl}
 use mathlib.Core.Bool.{Bool, true, false, cond}
 use mathlib.Core.List.{List, [], _∷_, _++_}
-use Prim.Native.Nat.{ℕ, zero, suc, _+_, _-_, _*_, _≤_}
+use Prim.Native.Nat.{ℕ, _+_, _-_, _*_, _≤_}
 use native.Mathlib.Omega.{arith}
 use borrow.Author.Tests.{ltb-false}
 use lib.Dec.{ltb}
 use lib.ListN.{length, length-append}
 use Rattle.definitions.specs.declared.Instruction.{Instruction}
 use Rattle.definitions.specs.declared.Condition.{Condition}
-use Rattle.definitions.specs.Word.{numberAt}
 use Rattle.definitions.specs.Machine.{instructionBytes, filterBytes}
 use Rattle.definitions.specs.RuleSet.{Rule}
-use Rattle.definitions.specs.Emitted.{jumpBy, return, conditionCode, reach, helpers, near, stepCode, stepDistance, conditionsCode, distance, ruleCode, ruleBody, rulesCode}
-use Rattle.bpf.specs.Place.{place, placeBefore, Writing}
+use Rattle.definitions.specs.Emitted.{jumpBy, return, conditionCode, reach, helpers, near, stepCode, stepDistance, conditionsCode, distance, ruleCode, ruleBody}
+use Rattle.bpf.specs.Place.{place, placeBefore}
 use Rattle.bpf.proofs.Laws.{length-place, place-nil, length-filterBytes, put-first, put-2, puts-before, before-is, WritingBefore}
-use Rattle.set_view.specs.Parts.{behind, conditionHere, conditionsHere, parts, rulesHere, rulesPast}
+use Rattle.set_view.specs.Parts.{conditionHere, conditionPast, conditionsHere}
+use Rattle.set_view.proofs.Walk.{parts-more, parts-none}
 
 -- ---- helper jumps, and the distance behind them
 
@@ -65,13 +65,12 @@ step-length q d = rw (step-is q d, length-append)
 pub code-more : (s : List ℕ) (n at d : ℕ) → (n ≡ 0 → ⊥)
     → conditionsCode (conditionsHere s n at) d
     ≡ conditionsCode (conditionsHere s (n - 1) (at + 24)) (stepDistance (conditionHere s at) d) ++ stepCode (conditionHere s at) d
-unfolding parts conditionsCode
-code-more s zero at d h = absurd (h refl)
-code-more s (suc n) at d h = let e : suc n - 1 ≡ n = omega arith in rw e
+unfolding conditionsCode
+code-more s n at d h = rw (parts-more (conditionHere s) conditionPast n at h)
 
 pub code-none : (s : List ℕ) (n at d : ℕ) → n ≡ 0 → conditionsCode (conditionsHere s n at) d ≡ []
-unfolding parts conditionsCode
-code-none s n at d e = rw e
+unfolding conditionsCode
+code-none s n at d e = rw (parts-none (conditionHere s) conditionPast n at e)
 
 pub code-length : (s : List ℕ) (n at d : ℕ) → (n ≡ 0 → ⊥)
     → length (conditionsCode (conditionsHere s n at) d)
@@ -84,59 +83,45 @@ step-room s n at d h w = omega (arith, w .room, code-length s n at d h)
 
 pub distance-more : (s : List ℕ) (n at d : ℕ) → (n ≡ 0 → ⊥)
     → distance (conditionsHere s n at) d ≡ distance (conditionsHere s (n - 1) (at + 24)) (stepDistance (conditionHere s at) d)
-unfolding parts distance
-distance-more s zero at d h = absurd (h refl)
-distance-more s (suc n) at d h = let e : suc n - 1 ≡ n = omega arith in rw e
+unfolding distance
+distance-more s n at d h = rw (parts-more (conditionHere s) conditionPast n at h)
 
 pub distance-none : (s : List ℕ) (n at d : ℕ) → n ≡ 0 → distance (conditionsHere s n at) d ≡ d
-unfolding parts distance
-distance-none s n at d e = rw e
+unfolding distance
+distance-none s n at d e = rw (parts-none (conditionHere s) conditionPast n at e)
 
 -- ---- a rule
 
-pub rule-is-long : (m : ℕ) (qs : Rule) → length (ruleCode m qs) ≡ 3 + length (conditionsCode qs 1)
-unfolding ruleCode ruleBody
-rule-is-long m qs = simp length-append (omega arith)
+pub body-is-long : (m : ℕ) (qs : Rule) → length (ruleBody m qs) ≡ 1 + length (conditionsCode qs 1)
+unfolding ruleBody
+body-is-long m qs = rw length-append (omega arith)
 
--- the return, the conditions in front of it, then the two jumps
-pub rule-put : (l : List ℕ) (at last m : ℕ) (qs : Rule) → at + 8 * length (ruleCode m qs) ≤ length l
-    → last + 8 ≡ at + 8 * length (ruleCode m qs)
-    → place (place (placeBefore (place l last (instructionBytes (return m))) last (filterBytes (conditionsCode qs 1)))
-    at (instructionBytes (jumpBy 1))) (at + 8) (instructionBytes (jumpBy (distance qs 1 + 1)))
-    ≡ place l at (filterBytes (ruleCode m qs))
-unfolding ruleCode ruleBody
-rule-put l at last m qs room e =
-    let n = rule-is-long m qs in
-    let b = conditionsCode qs 1 ++ (return m ∷ []) in
-    let k : length b ≡ length (conditionsCode qs 1) + 1 = rw length-append in
-    let w : length (place l (at + 16) (filterBytes b)) ≡ length l = length-place l (at + 16) (filterBytes b) (rw length-filterBytes (omega arith)) in
+-- the return, and the conditions in front of it
+pub body-put : (l : List ℕ) (at end m : ℕ) (qs : Rule) → at + 8 ≡ end → 8 * length (ruleBody m qs) ≤ end → end ≤ length l
+    → placeBefore (place l at (instructionBytes (return m))) at (filterBytes (conditionsCode qs 1)) ≡ placeBefore l end (filterBytes (ruleBody m qs))
+unfolding ruleBody
+body-put l at end m qs e fits room =
+    let n = body-is-long m qs in
+    let start = end - 8 * length (ruleBody m qs) in
     rw (
-      put-first l last (return m),
-      before-is (place l last (filterBytes (return m ∷ []))) last (at + 16) (conditionsCode qs 1) (omega arith),
-      puts-before l (at + 16) last (conditionsCode qs 1) (return m ∷ []) (omega arith) (omega arith),
-      put-2 (place l (at + 16) (filterBytes b)) at (jumpBy 1) (jumpBy (distance qs 1 + 1)) (omega arith),
+      put-first l at (return m),
+      before-is (place l at (filterBytes (return m ∷ []))) at start (conditionsCode qs 1) (omega arith),
+      before-is l end start (ruleBody m qs) (omega arith),
     )
+    (puts-before l start at (conditionsCode qs 1) (return m ∷ []) (omega arith) (omega arith))
+
+pub rule-is-long : (m : ℕ) (qs : Rule) → length (ruleCode m qs) ≡ 2 + length (ruleBody m qs)
+unfolding ruleCode
+rule-is-long m qs = omega arith
+
+-- the body, then the two jumps in front of it
+pub rule-put : (l : List ℕ) (at end m : ℕ) (qs : Rule) → at + 8 * length (ruleCode m qs) ≤ length l → end ≡ at + 8 * length (ruleCode m qs)
+    → place (place (placeBefore l end (filterBytes (ruleBody m qs))) at (instructionBytes (jumpBy 1))) (at + 8) (instructionBytes (jumpBy (distance qs 1 + 1)))
+    ≡ place l at (filterBytes (ruleCode m qs))
+unfolding ruleCode
+rule-put l at end m qs room e =
+    let b = ruleBody m qs in
+    let n = rule-is-long m qs in
+    let w : length (place l (at + 16) (filterBytes b)) ≡ length l = length-place l (at + 16) (filterBytes b) (rw length-filterBytes (omega arith)) in
+    rw (before-is l end (at + 16) b (omega arith), put-2 (place l (at + 16) (filterBytes b)) at (jumpBy 1) (jumpBy (distance qs 1 + 1)) (omega arith))
     (puts-before l at (at + 16) (jumpBy 1 ∷ jumpBy (distance qs 1 + 1) ∷ []) b (omega arith) (omega arith))
-
--- ---- rules, from the bytes
-
-pub rules-more : (s : List ℕ) (n at m : ℕ) → (n ≡ 0 → ⊥)
-    → rulesCode m (rulesHere s n at)
-    ≡ ruleCode m (conditionsHere s (numberAt 4 s at) (at + 4)) ++ rulesCode m (rulesHere s (n - 1) (at + 4 + 24 * numberAt 4 s at))
-unfolding parts
-rules-more s zero at m h = absurd (h refl)
-rules-more s (suc n) at m h = let e : suc n - 1 ≡ n = omega arith in rw e
-
-pub rules-are-long : (s : List ℕ) (n at m : ℕ) → (n ≡ 0 → ⊥)
-    → length (rulesCode m (rulesHere s n at))
-    ≡ length (ruleCode m (conditionsHere s (numberAt 4 s at) (at + 4))) + length (rulesCode m (rulesHere s (n - 1) (at + 4 + 24 * numberAt 4 s at)))
-rules-are-long s n at m h = rw (rules-more s n at m h, length-append)
-
-pub rule-room : (s : List ℕ) (n at m : ℕ) {out₀ : List ℕ} {start : ℕ} {all : List Instruction} {out : List ℕ} {pos : ℕ} → (n ≡ 0 → ⊥)
-    → Writing out₀ start all out pos (rulesCode m (rulesHere s n at)) → start + 8 * length all ≤ length out₀
-    → pos + 8 * length (ruleCode m (conditionsHere s (numberAt 4 s at) (at + 4))) ≤ length out
-rule-room s n at m h w fits = omega (arith, w .spot, w .long, rules-are-long s n at m h)
-
-pub rules-none : (s : List ℕ) (n at m : ℕ) → n ≡ 0 → rulesCode m (rulesHere s n at) ≡ []
-unfolding parts
-rules-none s n at m e = rw e

@@ -6,8 +6,9 @@ ghost use lib.Dec.{ltb};
 ghost use lib.ListN.{length};
 ghost use Rattle.definitions.specs.Machine.{filterBytes};
 ghost use Rattle.definitions.specs.Emitted as emitted;
-ghost use Rattle.definitions.specs.Emitted.{helpers, stepCode, stepDistance, conditionsCode, distance, ruleCode, rulesCode};
+ghost use Rattle.definitions.specs.Emitted.{helpers, stepCode, stepDistance, distance, ruleBody, ruleBodies};
 ghost use Rattle.bpf.specs.Place.{place, placeBefore, PutBefore};
+ghost use Rattle.rule.specs.Form.{ruleWith, rulesWith};
 ghost use Rattle.set_view.specs.Parts.{conditionsHere, rulesHere, rulesPast};
 use bpf::jump_by;
 use bpf::wide;
@@ -94,34 +95,13 @@ fn put_step(out: &mut [u8], end: usize, q: Condition, d: u8) -> Put
     }
 }
 
-// Writes n conditions so that they end at a place, and answers the distance in front of them.
-pub fn put_conditions(out: &mut [u8], s: &[u8], n: u32, from: usize, end: usize) -> u8
+// How many instructions the body of a rule of n conditions has.
+fn rule_length(s: &[u8], n: u32, from: usize) -> usize
     requires { ⌜ (from + 24 * n ≤ length (now s)) × (length (now s) ≤ 1048576) ⌝ }
-    requires { ⌜ (8 * length (conditionsCode (conditionsHere (now s) n from) 1) ≤ end) × (end ≤ length (now out)) ⌝ }
-    ensures { λ r. ⌜ (now (out .exit) ≡ placeBefore (now (out .entry)) end (filterBytes (conditionsCode (conditionsHere (now (s .entry)) n from) 1)))
-        × (r ≡ distance (conditionsHere (now (s .entry)) n from) 1) ⌝ }
+    ensures { λ r. ⌜ ((m : ℕ) → length (ruleBody m (conditionsHere (now (s .entry)) n from)) ≡ r) × (r ≤ 1 + 9 * n) ⌝ }
 {
-    let mut at = end;
-    let mut d: u8 = 1;
-    let mut here = from;
-    let mut left = n;
-    while left != 0 {
-        let step = put_step(out, at, condition_here(s, here), d);
-        at = step.at;
-        d = step.distance;
-        here = here + CONDITION_SIZE;
-        left = left - 1;
-    }
-    d
-}
-
-// How many instructions a rule of n conditions has.
-pub fn rule_length(s: &[u8], n: u32, from: usize) -> usize
-    requires { ⌜ (from + 24 * n ≤ length (now s)) × (length (now s) ≤ 1048576) ⌝ }
-    ensures { λ r. ⌜ ((m : ℕ) → length (ruleCode m (conditionsHere (now (s .entry)) n from)) ≡ r) × (r ≤ 3 + 9 * n) ⌝ }
-{
-    // two jumps and the return
-    let mut count: usize = 3;
+    // the return
+    let mut count: usize = 1;
     let mut d: u8 = 1;
     let mut here = from;
     let mut left = n;
@@ -135,22 +115,47 @@ pub fn rule_length(s: &[u8], n: u32, from: usize) -> usize
     count
 }
 
-// Writes a rule of n conditions at a place, and answers the place behind it. Match action m.
-fn put_rule(out: &mut [u8], s: &[u8], n: u32, from: usize, at: usize, m: u32) -> usize
+// Writes the body of a rule of n conditions so that it ends at a place, the return first, and answers the distance in front of it. Match action m.
+fn put_rule_body(out: &mut [u8], s: &[u8], n: u32, from: usize, end: usize, m: u32) -> u8
     requires { ⌜ (from + 24 * n ≤ length (now s)) × (length (now s) ≤ 1048576) ⌝ }
-    requires { ⌜ at + 8 * length (ruleCode m (conditionsHere (now s) n from)) ≤ length (now out) ⌝ }
-    ensures { λ r. ⌜ (now (out .exit) ≡ place (now (out .entry)) at (filterBytes (ruleCode m (conditionsHere (now (s .entry)) n from))))
-        × (r ≡ at + 8 * length (ruleCode m (conditionsHere (now (s .entry)) n from))) ⌝ }
+    requires { ⌜ (8 * length (ruleBody m (conditionsHere (now s) n from)) ≤ end) × (end ≤ length (now out)) ⌝ }
+    ensures { λ r. ⌜ (now (out .exit) ≡ placeBefore (now (out .entry)) end (filterBytes (ruleBody m (conditionsHere (now (s .entry)) n from))))
+        × (r ≡ distance (conditionsHere (now (s .entry)) n from) 1) ⌝ }
 {
-    let last = at + 8 * rule_length(s, n, from) - 8;
-    bpf::put(out, last, bpf::give(m));
-    let d = put_conditions(out, s, n, from, last);
-    bpf::put(out, at, jump_by(1));
-    bpf::put(out, at + 8, jump_by(wide(d) + 1));
-    last + 8
+    let mut at = end - 8;
+    bpf::put(out, at, bpf::give(m));
+    let mut d: u8 = 1;
+    let mut here = from;
+    let mut left = n;
+    while left != 0 {
+        let step = put_step(out, at, condition_here(s, here), d);
+        at = step.at;
+        d = step.distance;
+        here = here + CONDITION_SIZE;
+        left = left - 1;
+    }
+    d
 }
 
-// How many instructions rules have, and the place behind them in the rule set.
+// Writes a rule of n conditions at a place, behind its two jumps or without them, and answers the place behind it. Match action m.
+fn put_rule(out: &mut [u8], s: &[u8], n: u32, from: usize, at: usize, m: u32, jumps: bool) -> usize
+    requires { ⌜ (from + 24 * n ≤ length (now s)) × (length (now s) ≤ 1048576) ⌝ }
+    requires { ⌜ at + 8 * length (ruleWith jumps m (conditionsHere (now s) n from)) ≤ length (now out) ⌝ }
+    ensures { λ r. ⌜ (now (out .exit) ≡ place (now (out .entry)) at (filterBytes (ruleWith jumps m (conditionsHere (now (s .entry)) n from))))
+        × (r ≡ at + 8 * length (ruleWith jumps m (conditionsHere (now (s .entry)) n from))) ⌝ }
+{
+    let end = at + 8 * rule_length(s, n, from);
+    if jumps {
+        let d = put_rule_body(out, s, n, from, end + 16, m);
+        bpf::put(out, at, jump_by(1));
+        bpf::put(out, at + 8, jump_by(wide(d) + 1));
+        return end + 16;
+    }
+    put_rule_body(out, s, n, from, end, m);
+    end
+}
+
+// How many instructions the bodies of rules have, and the place behind the rules in the rule set. Jumps are two more for each.
 pub struct Length {
     pub count: usize,
     pub past: usize,
@@ -158,8 +163,8 @@ pub struct Length {
 
 pub fn rules_length(s: &[u8], n: u32, from: usize) -> Length
     requires { ⌜ (rulesPast (now s) n from ≤ length (now s)) × (length (now s) ≤ 1048576) ⌝ }
-    ensures { λ r. ⌜ ((m : ℕ) → length (rulesCode m (rulesHere (now (s .entry)) n from)) ≡ r .count)
-        × (r .past ≡ rulesPast (now (s .entry)) n from) × (r .count + from ≤ r .past) ⌝ }
+    ensures { λ r. ⌜ ((m : ℕ) → length (ruleBodies m (rulesHere (now (s .entry)) n from)) ≡ r .count)
+        × (r .past ≡ rulesPast (now (s .entry)) n from) × (r .count + 3 * n + from ≤ r .past) ⌝ }
 {
     let mut count: usize = 0;
     let mut past = from;
@@ -182,12 +187,20 @@ pub struct Written {
     pub past: usize,
 }
 
-// Writes n rules at a place. Match action m.
-pub fn put_rules(out: &mut [u8], s: &[u8], n: u32, from: usize, at: usize, m: u32) -> Written
+// Writes n rules at a place, behind their jumps or without them. Match action m.
+pub fn put_rules(
+    out: &mut [u8],
+    s: &[u8],
+    n: u32,
+    from: usize,
+    at: usize,
+    m: u32,
+    jumps: bool,
+) -> Written
     requires { ⌜ (rulesPast (now s) n from ≤ length (now s)) × (length (now s) ≤ 1048576) ⌝ }
-    requires { ⌜ at + 8 * length (rulesCode m (rulesHere (now s) n from)) ≤ length (now out) ⌝ }
-    ensures { λ r. ⌜ (now (out .exit) ≡ place (now (out .entry)) at (filterBytes (rulesCode m (rulesHere (now (s .entry)) n from))))
-        × (r .end ≡ at + 8 * length (rulesCode m (rulesHere (now (s .entry)) n from)))
+    requires { ⌜ at + 8 * length (rulesWith jumps m (rulesHere (now s) n from)) ≤ length (now out) ⌝ }
+    ensures { λ r. ⌜ (now (out .exit) ≡ place (now (out .entry)) at (filterBytes (rulesWith jumps m (rulesHere (now (s .entry)) n from))))
+        × (r .end ≡ at + 8 * length (rulesWith jumps m (rulesHere (now (s .entry)) n from)))
         × (r .past ≡ rulesPast (now (s .entry)) n from) ⌝ }
 {
     let mut end = at;
@@ -195,7 +208,7 @@ pub fn put_rules(out: &mut [u8], s: &[u8], n: u32, from: usize, at: usize, m: u3
     let mut left = n;
     while left != 0 {
         let conditions = bpf::u32_at(s, past);
-        end = put_rule(out, s, conditions, past + 4, end, m);
+        end = put_rule(out, s, conditions, past + 4, end, m, jumps);
         past = set_view::rule_past(past, conditions);
         left = left - 1;
     }

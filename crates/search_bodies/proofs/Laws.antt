@@ -1,6 +1,6 @@
 -- Laws of the code of rules as the search form has it, and of the bytes that it is read from: one turn of each loop, its end, and how
--- long it is. Assumes nothing.
-use mathlib.Core.Path.{_≡_, refl, ap, _∙_}
+-- long it is.
+use mathlib.Core.Path.{_≡_, refl, _∙_}
 use mathlib.Core.List.{List, [], _∷_, _++_}
 use Prim.Native.Nat.{ℕ, zero, suc, _+_, _-_, _*_, _≤_}
 use native.Mathlib.Omega.{arith}
@@ -8,46 +8,12 @@ use lib.ListN.{length, length-append}
 use Rattle.definitions.specs.declared.Instruction.{Instruction}
 use Rattle.definitions.specs.Word.{numberAt}
 use Rattle.definitions.specs.Machine.{instructionBytes, filterBytes}
-use Rattle.definitions.specs.RuleSet.{Rule}
-use Rattle.definitions.specs.Emitted.{return, conditionsCode, ruleCode, rulesCode, ruleBody, ruleBodies, entryBody}
-use Rattle.bpf.specs.Place.{place, placeBefore, Writing}
-use Rattle.bpf.proofs.Laws.{put-first, puts-before, before-is}
-use Rattle.rule.proofs.Laws.{rule-is-long}
+use Rattle.definitions.specs.Emitted.{return, ruleBodies, entryBody}
+use Rattle.bpf.specs.Place.{place, Writing}
+use Rattle.bpf.proofs.Laws.{put-first}
 use Rattle.search_form.specs.Search.{bodies}
-use Rattle.search_form.proofs.Shorter.{rules-shorter}
-use Rattle.set_view.specs.Parts.{behind, conditionsHere, entriesHere, entriesPast, entryHere, entryPast, parts, rulesHere}
+use Rattle.set_view.specs.Parts.{behind, entriesHere, entriesPast, entryHere, entryPast, parts, rulesHere}
 use Rattle.set_view.proofs.Walk.{entry-further, entry-inside}
-
--- ---- a rule: the return, and the conditions in front of it
-
--- how long a rule is in the emitted form, and how long here
-pub rule-sizes : (m : ℕ) (qs : Rule) (count : ℕ) → length (ruleCode m qs) ≡ count
-    → (length (conditionsCode qs 1) + 3 ≡ count) × (length (ruleBody m qs) + 2 ≡ count)
-unfolding ruleBody
-rule-sizes m qs count e =
-    let n = rule-is-long m qs in
-    let b : length (ruleBody m qs) ≡ length (conditionsCode qs 1) + 1 = length-append (conditionsCode qs 1) (return m ∷ []) in
-    omega arith
-
-pub rule-body-put : (l : List ℕ) (at last m : ℕ) (qs : Rule) → last ≡ at + 8 * length (conditionsCode qs 1) → last + 8 ≤ length l
-    → placeBefore (place l last (instructionBytes (return m))) last (filterBytes (conditionsCode qs 1)) ≡ place l at (filterBytes (ruleBody m qs))
-unfolding ruleBody
-rule-body-put l at last m qs e h =
-    rw (put-first l last (return m), before-is (place l last (filterBytes (return m ∷ []))) last at (conditionsCode qs 1) (omega arith))
-    (puts-before l at last (conditionsCode qs 1) (return m ∷ []) (omega arith) (omega arith))
-
--- ---- rules, from the bytes
-
-pub rule-bodies-more : (s : List ℕ) (n at m : ℕ) → (n ≡ 0 → ⊥)
-    → ruleBodies m (rulesHere s n at)
-    ≡ ruleBody m (conditionsHere s (numberAt 4 s at) (at + 4)) ++ ruleBodies m (rulesHere s (n - 1) (at + 4 + 24 * numberAt 4 s at))
-unfolding parts
-rule-bodies-more s zero at m h = absurd (h refl)
-rule-bodies-more s (suc n) at m h = let e : suc n - 1 ≡ n = omega arith in rw e
-
-pub rule-bodies-none : (s : List ℕ) (n at m : ℕ) → n ≡ 0 → ruleBodies m (rulesHere s n at) ≡ []
-unfolding parts
-rule-bodies-none s n at m e = rw e
 
 -- ---- an entry
 
@@ -61,17 +27,8 @@ unfolding parts entryBody
 entry-body-some s zero at m d h = absurd (h refl)
 entry-body-some s (suc n) at m d h = refl
 
-rules-many : (s : List ℕ) (n at : ℕ) → length (rulesHere s n at) ≡ n
-unfolding parts
-rules-many s zero at = refl
-rules-many s (suc n) at = ap suc (rules-many s n (at + 4 + 24 * numberAt 4 s at))
-
--- how long an entry's rules are, if that is `count` in the emitted form
-pub entry-body-long : (s : List ℕ) (n at m d count : ℕ) → (n ≡ 0 → ⊥) → length (rulesCode m (rulesHere s n at)) ≡ count
-    → (2 * n ≤ count) × (length (entryBody m d (rulesHere s n at)) ≡ count - 2 * n + 1)
-entry-body-long s n at m d count h e =
-    let l : length (entryBody m d (rulesHere s n at)) ≡ length (ruleBodies m (rulesHere s n at)) + 1 = rw (entry-body-some s n at m d h, length-append) in
-    omega (arith, rules-shorter m (rulesHere s n at), rules-many s n at)
+pub entry-body-long : (s : List ℕ) (n at m d : ℕ) → (n ≡ 0 → ⊥) → length (entryBody m d (rulesHere s n at)) ≡ length (ruleBodies m (rulesHere s n at)) + 1
+entry-body-long s n at m d h = rw (entry-body-some s n at m d h, length-append)
 
 -- ---- entries
 

@@ -6,8 +6,8 @@ ghost use lib.ListN.{length};
 ghost use Rattle.definitions.specs.Machine.{filterBytes};
 ghost use Rattle.bpf.specs.Place.{place};
 ghost use Rattle.search_form.specs.Search.{bodies};
-ghost use Rattle.definitions.specs.Emitted.{ruleBody, ruleBodies, entryBody};
-ghost use Rattle.set_view.specs.Parts.{conditionsHere, entriesHere, entriesPast, rulesHere, rulesPast};
+ghost use Rattle.definitions.specs.Emitted.{entryBody};
+ghost use Rattle.set_view.specs.Parts.{entriesHere, entriesPast, rulesHere, rulesPast};
 ghost use Rattle.search_bodies.specs.Here.{bodiesHere};
 use rule::Length;
 use rule::Written;
@@ -25,9 +25,9 @@ pub fn body_length(s: &[u8], n: u32, from: usize) -> Length
         };
     }
     let rules = rule::rules_length(s, n, from);
-    // each without its two jumps, and a return behind them
+    // a return stands behind them
     Length {
-        count: rules.count - 2 * (n as usize) + 1,
+        count: rules.count + 1,
         past: rules.past,
     }
 }
@@ -48,43 +48,6 @@ pub fn bodies_length(s: &[u8], n: u32, from: usize) -> usize
         left = left - 1;
     }
     count
-}
-
-// Writes a rule of n conditions at a place, without the two jumps that it has in the emitted form, and answers the place behind it.
-// Match action m.
-fn put_rule_body(out: &mut [u8], s: &[u8], n: u32, from: usize, at: usize, m: u32) -> usize
-    requires { ⌜ (from + 24 * n ≤ length (now s)) × (length (now s) ≤ 1048576) ⌝ }
-    requires { ⌜ at + 8 * length (ruleBody m (conditionsHere (now s) n from)) ≤ length (now out) ⌝ }
-    ensures { λ r. ⌜ (now (out .exit) ≡ place (now (out .entry)) at (filterBytes (ruleBody m (conditionsHere (now (s .entry)) n from))))
-        × (r ≡ at + 8 * length (ruleBody m (conditionsHere (now (s .entry)) n from))) ⌝ }
-{
-    let last = at + 8 * rule::rule_length(s, n, from) - 24;
-    bpf::put(out, last, bpf::give(m));
-    rule::put_conditions(out, s, n, from, last);
-    last + 8
-}
-
-// Writes n rules at a place. Match action m.
-fn put_rule_bodies(out: &mut [u8], s: &[u8], n: u32, from: usize, at: usize, m: u32) -> Written
-    requires { ⌜ (rulesPast (now s) n from ≤ length (now s)) × (length (now s) ≤ 1048576) ⌝ }
-    requires { ⌜ at + 8 * length (ruleBodies m (rulesHere (now s) n from)) ≤ length (now out) ⌝ }
-    ensures { λ r. ⌜ (now (out .exit) ≡ place (now (out .entry)) at (filterBytes (ruleBodies m (rulesHere (now (s .entry)) n from))))
-        × (r .end ≡ at + 8 * length (ruleBodies m (rulesHere (now (s .entry)) n from)))
-        × (r .past ≡ rulesPast (now (s .entry)) n from) ⌝ }
-{
-    let mut end = at;
-    let mut past = from;
-    let mut left = n;
-    while left != 0 {
-        let conditions = bpf::u32_at(s, past);
-        end = put_rule_body(out, s, conditions, past + 4, end, m);
-        past = set_view::rule_past(past, conditions);
-        left = left - 1;
-    }
-    Written {
-        end: end,
-        past: past,
-    }
 }
 
 // Writes the n rules of an entry at a place, with a mismatch return behind them. Match action m, mismatch action d.
@@ -109,7 +72,7 @@ fn put_entry_body(
             past: from,
         };
     }
-    let rules = put_rule_bodies(out, s, n, from, at, m);
+    let rules = rule::put_rules(out, s, n, from, at, m, false);
     let last = rules.end;
     bpf::put(out, last, bpf::give(d));
     Written {

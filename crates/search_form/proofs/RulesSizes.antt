@@ -13,9 +13,10 @@ use Rattle.search_form.specs.Search.{toRules, grow, Form, plant, chain, 
 use Rattle.search_form.specs.Rules.{Look, cases, Laid, layEntry, lay, grown, fronted, mismatching, oneByOne, searched, pattern, alikes, others, byWords, ruled, rulesMost, shorterOf, entryForm, bottom, rulesPlanted, rulesForm}
 use Rattle.search_form.specs.Statements.{RulesShorter}
 use Rattle.theorems.proofs.Tests.{both-true}
+use Rattle.theorems.proofs.Lengths.{rules-shorter}
 use Rattle.search_form.proofs.Cases.{cond-case}
 use Rattle.search_form.proofs.Sizes.{needs, lefts-least, Rooted, tree-sized}
-use Rattle.search_form.proofs.Shorter.{alone-need, plain-need, rules-shorter}
+use Rattle.search_form.proofs.Shorter.{alone-need, plain-need}
 use Rattle.search_form.proofs.RulesRight.{lay-some}
 
 module _ (m d : ℕ) where

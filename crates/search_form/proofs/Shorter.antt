@@ -2,23 +2,17 @@
 use mathlib.Core.Path.{_≡_, refl, ap}
 use mathlib.Core.Bool.{Bool, cond}
 use mathlib.Core.List.{List, [], _∷_, _++_}
-use Prim.Native.Nat.{ℕ, suc, _+_, _*_, _≤_}
+use Prim.Native.Nat.{ℕ, suc, _+_, _≤_}
 use native.Mathlib.Omega.{arith}
 use lib.ListN.{length, length-append}
 use borrow.Author.Tests.{eq-eqb}
 use Rattle.definitions.specs.RuleSet.{Rule, Entry}
-use Rattle.definitions.specs.Emitted.{return, ruleCode, rulesCode, bodyCode, entryCode, entriesCode, numbersCode, emitted, ruleBody, ruleBodies, entryBody}
+use Rattle.definitions.specs.Emitted.{return, rulesCode, bodyCode, entryCode, entriesCode, numbersCode, emitted, ruleBodies, entryBody}
 use Rattle.search_form.specs.Search.{bodies, Destination, toMatch, toRules, Span, alone, plainSpans, entrySpans, spans, chain, blockIf, grow, away, nearReturn, plantLeaf, openBlock, plant, ground, tree, planted, searchForm}
 use Rattle.search_form.specs.Statements.{Shorter}
+use Rattle.theorems.proofs.Lengths.{rules-shorter}
 use Rattle.search_form.proofs.Spans.{plain-case, spans-some}
 use Rattle.search_form.proofs.Sizes.{need, needs, need-least, need-most, lefts-least, Rooted, tree-sized}
-
--- ---- the rules, without two jumps for each
-
-pub rules-shorter : (m : ℕ) (rs : List Rule) → length (ruleBodies m rs) + 2 * length rs ≡ length (rulesCode m rs)
-unfolding ruleBody ruleCode
-rules-shorter m [] = refl
-rules-shorter m (r ∷ rs) = simp length-append (omega (arith, rules-shorter m rs))
 
 -- ---- what an entry's span may take beside its rules is what the emitted form takes
 

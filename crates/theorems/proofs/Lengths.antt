@@ -2,7 +2,7 @@
 use mathlib.Core.Path.{_≡_, refl}
 use mathlib.Core.Bool.{Bool, true, false, cond}
 use mathlib.Core.List.{List, [], _∷_}
-use Prim.Native.Nat.{ℕ, _+_, _≤_}
+use Prim.Native.Nat.{ℕ, _+_, _*_, _≤_}
 use native.Mathlib.Omega.{arith}
 use lib.Dec.{ltb}
 use lib.ListN.{length, length-append}
@@ -12,7 +12,7 @@ use Rattle.definitions.specs.declared.Width.{Width}
 use Rattle.definitions.specs.declared.Width.the-variants.{Dword, Qword}
 use Rattle.definitions.specs.declared.Condition.{Condition}
 use Rattle.definitions.specs.RuleSet.{Rule, Entry, guarded}
-use Rattle.definitions.specs.Emitted.{jumpBy, reach, highTests, lowTests, highPart, lowPart, conditionCode, helpers, near, stepCode, stepDistance, conditionsCode, ruleCode, ruleBody, rulesCode, bodyCode, entryCode, entriesCode, numbersCode, emitted}
+use Rattle.definitions.specs.Emitted.{jumpBy, reach, highTests, lowTests, highPart, lowPart, conditionCode, helpers, near, stepCode, stepDistance, conditionsCode, ruleCode, ruleBody, rulesCode, ruleBodies, bodyCode, entryCode, entriesCode, numbersCode, emitted}
 use Rattle.theorems.specs.Statements.{Lengths}
 use Rattle.theorems.specs.Length.{forWidth, conditionLength, conditionsLength, sum, ruleLength, bodyLength, entryLength, filterLength}
 use Rattle.theorems.proofs.Sequence.{length-sequence}
@@ -87,6 +87,12 @@ length-rule-code m qs = omega (arith, length-rule-body m qs)
 
 pub length-rules : (m : ℕ) (rs : List Rule) → length (rulesCode m rs) ≡ sum ruleLength rs
 length-rules m rs = length-sequence (ruleCode m) ruleLength (length-rule-code m) rs
+
+-- bodies are shorter by the two jumps of each rule
+pub rules-shorter : (m : ℕ) (rs : List Rule) → length (ruleBodies m rs) + 2 * length rs ≡ length (rulesCode m rs)
+unfolding ruleCode
+rules-shorter m [] = refl
+rules-shorter m (r ∷ rs) = simp length-append (omega (arith, rules-shorter m rs))
 
 pub length-body : (m : ℕ) (rs : List Rule) → length (bodyCode m rs) ≡ bodyLength rs
 unfolding bodyCode bodyLength

@@ -1,8 +1,9 @@
--- `put_rule` meets its contract: the return is put at the rule's end, its conditions in front of that, and the two jumps first.
--- Assumes nothing.
+-- `put_rule` meets its contract: the body is put so that it ends where the rule does, and the two jumps in front of it, if there are any.
 use borrow.Author.Needs.{needs}
 use native.Mathlib.Omega.{arith}
+use mathlib.Core.Path.{_∙_}
 use denote.Ref.{now}
+use Rattle.bpf.proofs.Laws.{before-is}
 use Rattle.set_view.specs.Parts.{conditionsHere}
 use Rattle.rule.proofs.Laws.{rule-is-long, rule-put}
 use Rattle.rule.proofs.put_rule.Statement.{statement}
@@ -11,45 +12,32 @@ use Rattle.rule.proofs.put_rule.Tie as tie
 rule-length-requires : tie.Need-rule-length-requires
 rule-length-requires c κs = search needs
 
-mul-last : tie.Need-mul-last
-mul-last c = search needs
+mul-end : tie.Need-mul-end
+mul-end c = search needs
 
-add-last : tie.Need-add-last
-add-last c = search needs
+add-end : tie.Need-add-end
+add-end c = search needs
 
-sub-last : tie.Need-sub-last
-sub-last c =
-    let a = c .before .before .before .args in
-    let n = rule-is-long (a .m) (conditionsHere (now (a .s)) (a .n) (a .from)) in
-    let k = c .rule-length .ensures .0 (a .m) in
-    omega arith
+add-put-rule-body : tie.Need-add-put-rule-body
+add-put-rule-body c = search needs
 
-give-requires : tie.Need-give-requires
-give-requires c κs = search needs
-
-put-requires : tie.Need-put-requires
-put-requires c κs =
+put-rule-body-requires : tie.Need-put-rule-body-requires
+put-rule-body-requires c κs =
     let a = c .before .before .before .before .before .args in
-    let n = rule-is-long (a .m) (conditionsHere (now (a .s)) (a .n) (a .from)) in
     let k = c .before .before .rule-length .ensures .0 (a .m) in
-    omega arith
-
-put-conditions-requires : tie.Need-put-conditions-requires
-put-conditions-requires c κs =
-    let a = c .before .before .before .before .before .before .before .before .before .args in
     let n = rule-is-long (a .m) (conditionsHere (now (a .s)) (a .n) (a .from)) in
-    let k = c .before .before .before .before .before .before .rule-length .ensures .0 (a .m) in
-    omega (arith, c .before .before .before .put .kept .0)
+    let room = rw (c .before .if1 .taken) at (c .before .before .before .before .before .pre .1) in
+    (c .before .before .before .before .before .pre .0, (omega arith, omega arith))
 
 jump-by-requires : tie.Need-jump-by-requires
 jump-by-requires c κs = search needs
 
-put-requires-2 : tie.Need-put-requires-2
-put-requires-2 c κs =
-    let a = c .before .before .before .before .before .before .before .before .before .before .before .before .before .before .args in
+put-requires : tie.Need-put-requires
+put-requires c κs =
+    let a = c .before .before .before .before .before .before .before .before .before .before .args in
     let n = rule-is-long (a .m) (conditionsHere (now (a .s)) (a .n) (a .from)) in
-    let k = c .before .before .before .before .before .before .before .before .before .before .before .rule-length .ensures .0 (a .m) in
-    omega (arith, c .before .before .before .before .before .before .before .before .put .kept .0, c .before .before .before .before .put-conditions .kept .0)
+    let room = rw (c .before .before .before .before .before .before .if1 .taken) at (c .before .before .before .before .before .before .before .before .before .before .pre .1) in
+    omega (arith, c .before .before .before .before .put-rule-body .kept .0)
 
 add-put : tie.Need-add-put
 add-put c = search needs
@@ -63,61 +51,68 @@ add-jump-by c = search needs
 jump-by-requires-2 : tie.Need-jump-by-requires-2
 jump-by-requires-2 c κs = search needs
 
-put-requires-3 : tie.Need-put-requires-3
-put-requires-3 c κs =
-    let a = c .before .before .before .before .before .before .before .before .before .before .before .before .before .before .before .before .before .before .before .before .args in
+put-requires-2 : tie.Need-put-requires-2
+put-requires-2 c κs =
+    let a = c .before .before .before .before .before .before .before .before .before .before .before .before .before .before .before .before .args in
     let n = rule-is-long (a .m) (conditionsHere (now (a .s)) (a .n) (a .from)) in
-    let k = c .before .before .before .before .before .before .before .before .before .before .before .before .before .before .before .before .before .rule-length .ensures .0 (a .m) in
-    omega (arith, c .before .before .before .before .before .before .before .before .before .before .before .before .before .before .put .kept .0, c .before .before .before .before .before .before .before .before .before .before .put-conditions .kept .0, c .before .before .before .before .before .put2 .kept .0, c .before .before .before .before .before .before .before .before .before .before .before .before .before .before .before .before .before .before .before .before .pre .1, c .before .before .before .before .before .before .before .before .before .before .before .before .before .before .before .before .before .before .before .before .good)
+    let room = rw (c .before .before .before .before .before .before .before .before .before .before .before .before .if1 .taken) at (c .before .before .before .before .before .before .before .before .before .before .before .before .before .before .before .before .pre .1) in
+    omega (arith, c .before .before .before .before .before .before .before .before .before .before .put-rule-body .kept .0, c .before .before .before .before .before .put .kept .0)
 
 add-result : tie.Need-add-result
-add-result c =
-    let a = c .before .before .before .before .before .before .before .before .before .before .before .before .before .before .before .before .before .before .before .before .before .before .before .args in
-    let n = rule-is-long (a .m) (conditionsHere (now (a .s)) (a .n) (a .from)) in
-    let k = c .before .before .before .before .before .before .before .before .before .before .before .before .before .before .before .before .before .before .before .before .rule-length .ensures .0 (a .m) in
-    omega (arith, c .before .before .before .before .before .before .before .before .before .before .before .before .before .before .before .before .before .before .before .before .before .before .before .pre .1, c .before .before .before .before .before .before .before .before .before .before .before .before .before .before .before .before .before .before .before .before .before .before .before .good)
+add-result c = search needs
 
 same-length : tie.Need-same-length
 same-length c = search needs
 
 returns : tie.Need-returns
 returns c =
-    let a = c .before .before .before .before .before .before .before .before .before .before .before .before .before .before .before .before .before .before .before .before .before .before .before .args in
-    let n = rule-is-long (a .m) (conditionsHere (now (a .s)) (a .n) (a .from)) in
-    let k = c .before .before .before .before .before .before .before .before .before .before .before .before .before .before .before .before .before .before .before .before .rule-length .ensures .0 (a .m) in (
-      rw (
-        c .before .before .put3 .ensures,
-        c .before .before .before .jump-by2 .ensures,
-        c .before .before .before .before .wide .ensures .0,
-        c .before .before .before .before .before .before .before .before .put2 .ensures,
-        c .before .before .before .before .before .before .before .before .before .jump-by .ensures,
-        c .before .before .before .before .before .before .before .before .before .before .before .before .before .put-conditions .ensures .0,
-        c .before .before .before .before .before .before .before .before .before .before .before .before .before .put-conditions .ensures .1,
-        c .before .before .before .before .before .before .before .before .before .before .before .before .before .before .before .before .before .put .ensures,
-        c .before .before .before .before .before .before .before .before .before .before .before .before .before .before .before .before .before .before .give .ensures,
-      )
-          (rule-put _ _ _ _ _ (c .before .before .before .before .before .before .before .before .before .before .before .before .before .before .before .before .before .before .before .before .before .before .before .pre .1) (omega (arith, c .before .before .before .before .before .before .before .before .before .before .before .before .before .before .before .before .before .before .before .before .before .before .before .pre .1, c .before .before .before .before .before .before .before .before .before .before .before .before .before .before .before .before .before .before .before .before .before .before .before .good))),
-      omega (arith, c .before .before .before .before .before .before .before .before .before .before .before .before .before .before .before .before .before .before .before .before .before .before .before .pre .1, c .before .before .before .before .before .before .before .before .before .before .before .before .before .before .before .before .before .before .before .before .before .before .before .good),
+    let a = c .before .before .before .before .before .before .before .before .before .before .before .before .before .before .before .before .before .before .before .args in
+    let q = conditionsHere (now (a .s)) (a .n) (a .from) in
+    let k = c .before .before .before .before .before .before .before .before .before .before .before .before .before .before .before .before .rule-length .ensures .0 (a .m) in
+    let n = rule-is-long (a .m) q in
+    let room = rw (c .before .before .before .before .before .before .before .before .before .before .before .before .before .before .before .if1 .taken) at (c .before .before .before .before .before .before .before .before .before .before .before .before .before .before .before .before .before .before .before .pre .1) in
+    rw (c .before .before .before .before .before .before .before .before .before .before .before .before .before .before .before .if1 .taken) (
+      rw (c .before .before .put2 .ensures, c .before .before .before .jump-by2 .ensures, c .before .before .before .before .wide .ensures .0, c .before .before .before .before .before .before .before .before .put .ensures, c .before .before .before .before .before .before .before .before .before .jump-by .ensures, c .before .before .before .before .before .before .before .before .before .before .before .before .before .put-rule-body .ensures .0, c .before .before .before .before .before .before .before .before .before .before .before .before .before .put-rule-body .ensures .1)
+          (rule-put _ _ _ (a .m) q room (omega arith)),
+      omega arith,
     )
+
+put-rule-body-requires-2 : tie.Need-put-rule-body-requires-2
+put-rule-body-requires-2 c κs =
+    let a = c .before .before .before .before .before .args in
+    let k = c .before .before .rule-length .ensures .0 (a .m) in
+    let room = rw (c .before .if1 .left) at (c .before .before .before .before .before .pre .1) in
+    (c .before .before .before .before .before .pre .0, (omega arith, omega arith))
+
+same-length-2 : tie.Need-same-length-2
+same-length-2 c = search needs
+
+returns-2 : tie.Need-returns-2
+returns-2 c =
+    let a = c .before .before .before .before .before .before .before .before .args in
+    let q = conditionsHere (now (a .s)) (a .n) (a .from) in
+    let k = c .before .before .before .before .before .rule-length .ensures .0 (a .m) in
+    rw (c .before .before .before .before .if1 .left) (c .before .before .put-rule-body2 .ensures .0 ∙ before-is _ _ _ _ (omega arith), omega arith)
 
 pub put-rule-spec : {M : Type 1} → statement M
 put-rule-spec =
     tie.close
     (tie.spec
     rule-length-requires
-    mul-last
-    add-last
-    sub-last
-    give-requires
-    put-requires
-    put-conditions-requires
+    mul-end
+    add-end
+    add-put-rule-body
+    put-rule-body-requires
     jump-by-requires
-    put-requires-2
+    put-requires
     add-put
     wide-requires
     add-jump-by
     jump-by-requires-2
-    put-requires-3
+    put-requires-2
     add-result
     same-length
-    returns)
+    returns
+    put-rule-body-requires-2
+    same-length-2
+    returns-2)

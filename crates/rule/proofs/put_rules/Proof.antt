@@ -1,26 +1,23 @@
 -- `put_rules` meets its contract. The loop's invariant: what is left, written here, is the whole, written there; and both are read
--- from bytes that end at one place. Assumes nothing.
-use mathlib.Core.Path.{_≡_, refl, sym, _∙_}
-use Prim.Native.Nat.{_+_}
+-- from bytes that end at one place.
+use mathlib.Core.Path.{_≡_, refl, ap, sym, _∙_}
 use native.Mathlib.Omega.{arith}
 use denote.Ref.{now}
-use Rattle.definitions.specs.Word.{numberAt}
-use Rattle.definitions.specs.Emitted.{ruleCode, rulesCode}
 use Rattle.bpf.specs.Place.{Writing}
-use Rattle.bpf.proofs.Laws.{write-begin, write-turn, write-end}
-use Rattle.set_view.specs.Parts.{conditionsHere, rulePast, rulesHere, rulesPast}
-use Rattle.set_view.proofs.Walk.{behind-more, behind-none, rule-inside}
-use Rattle.rule.proofs.Laws.{rule-room, rules-more, rules-none}
+use Rattle.bpf.proofs.Laws.{write-begin, write-turn, write-room, write-end}
+use Rattle.set_view.specs.Parts.{ruleHere, rulePast, rulesHere, rulesPast}
+use Rattle.set_view.proofs.Walk.{parts-more, parts-none, behind-more, behind-none, rule-inside}
+use Rattle.rule.specs.Form.{ruleWith, rulesWith}
 use Rattle.rule.proofs.put_rules.Statement.{statement}
 use Rattle.rule.proofs.put_rules.Tie as tie
 
 abbrev Inv-loop : tie.InvT-loop
-Inv-loop out₀ s n from at m end₀ past₀ left₀ out end past left =
-    Writing out₀ at (rulesCode m (rulesHere s n from)) out end (rulesCode m (rulesHere s left past))
+Inv-loop out₀ s n from at m jumps end₀ past₀ left₀ out end past left =
+    Writing out₀ at (rulesWith jumps m (rulesHere s n from)) out end (rulesWith jumps m (rulesHere s left past))
     × (rulesPast s left past ≡ rulesPast s n from)
 
 abbrev μ-loop : tie.MeasureT-loop
-μ-loop out₀ s n from at m end₀ past₀ left₀ out end past left = left
+μ-loop out₀ s n from at m jumps end₀ past₀ left₀ out end past left = left
 
 loop-holds : tie.Need-loop-holds Inv-loop μ-loop
 loop-holds c = (write-begin _ _ _, refl)
@@ -37,8 +34,10 @@ add-put-rule c =
 
 put-rule-requires : tie.Need-put-rule-requires Inv-loop μ-loop
 put-rule-requires c κs =
-    let i = rule-inside (now (c .before .before .before .before .before .before .args .s)) (c .before .before .before .loop .left) (c .before .before .before .loop .past) _ (c .before .before .loop-test .taken) (c .before .before .before .loop .inv .1) (c .before .before .before .before .before .before .pre .0 .0) in
-    let room = rule-room (now (c .before .before .before .before .before .before .args .s)) (c .before .before .before .loop .left) (c .before .before .before .loop .past) (c .before .before .before .before .before .before .args .m) (c .before .before .loop-test .taken) (c .before .before .before .loop .inv .0) (c .before .before .before .before .before .before .pre .1) in
+    let s = now (c .before .before .before .before .before .before .args .s) in
+    let i = rule-inside s (c .before .before .before .loop .left) (c .before .before .before .loop .past) _ (c .before .before .loop-test .taken) (c .before .before .before .loop .inv .1) (c .before .before .before .before .before .before .pre .0 .0) in
+    let more = ap (rulesWith (c .before .before .before .before .before .before .args .jumps) (c .before .before .before .before .before .before .args .m)) (parts-more (ruleHere s) (rulePast s) (c .before .before .before .loop .left) (c .before .before .before .loop .past) (c .before .before .loop-test .taken)) in
+    let room = write-room _ _ _ _ _ _ (ruleWith (c .before .before .before .before .before .before .args .jumps) (c .before .before .before .before .before .before .args .m) (ruleHere s (c .before .before .before .loop .past))) _ (c .before .before .before .before .before .before .pre .1) (c .before .before .before .loop .inv .0) more in
     (omega (arith, c .before .u32-at .ensures), rw (c .before .u32-at .ensures) room)
 
 rule-past-requires : tie.Need-rule-past-requires Inv-loop μ-loop
@@ -59,8 +58,8 @@ loop-again c =
     let past = c .before .before .before .before .before .before .before .loop .past in
     let k = c .before .before .before .before .before .u32-at .ensures in
     let e = rw k at (c .rule-past .ensures) in
-    let more = rules-more s left past (c .before .before .before .before .before .before .before .before .before .before .args .m) (c .before .before .before .before .before .before .loop-test .taken) in (
-      rw e (write-turn _ _ _ _ _ _ (ruleCode (c .before .before .before .before .before .before .before .before .before .before .args .m) (conditionsHere s (numberAt 4 s past) (past + 4))) _ _ _ (c .before .before .before .before .before .before .before .before .before .before .pre .1) (c .before .before .before .before .before .before .before .loop .inv .0) more
+    let more = ap (rulesWith (c .before .before .before .before .before .before .before .before .before .before .args .jumps) (c .before .before .before .before .before .before .before .before .before .before .args .m)) (parts-more (ruleHere s) (rulePast s) left past (c .before .before .before .before .before .before .loop-test .taken)) in (
+      rw e (write-turn _ _ _ _ _ _ (ruleWith (c .before .before .before .before .before .before .before .before .before .before .args .jumps) (c .before .before .before .before .before .before .before .before .before .before .args .m) (ruleHere s past)) _ _ _ (c .before .before .before .before .before .before .before .before .before .before .pre .1) (c .before .before .before .before .before .before .before .loop .inv .0) more
           (rw k at (c .before .before .before .put-rule .ensures .0)) (rw k at (c .before .before .before .put-rule .ensures .1)) (c .before .before .before .put-rule .kept .0)),
       rw e (sym (behind-more (rulePast s) left past (c .before .before .before .before .before .before .loop-test .taken)) ∙ c .before .before .before .before .before .before .before .loop .inv .1),
     )
@@ -74,7 +73,7 @@ returns c =
     let left = c .before .loop .left in
     let past = c .before .loop .past in
     let e = c .loop-test .left in
-    let w = write-end _ _ _ _ _ _ (c .before .loop .inv .0) (rules-none s left past (c .before .before .before .before .args .m) e) in
+    let w = write-end _ _ _ _ _ _ (c .before .loop .inv .0) (ap (rulesWith (c .before .before .before .before .args .jumps) (c .before .before .before .before .args .m)) (parts-none (ruleHere s) (rulePast s) left past e)) in
     (w .0, w .1, sym (behind-none (rulePast s) left past e) ∙ c .before .loop .inv .1)
 
 pub put-rules-spec : {M : Type 1} → statement M

@@ -1,4 +1,4 @@
--- `rule_length` meets its contract. The loop's invariant: the count and what is left make up the rule. Assumes nothing.
+-- `rule_length` meets its contract. The loop's invariant: the count and what is left make up the rule's body.
 use mathlib.Core.Path.{_≡_}
 use Prim.Native.Nat.{_+_, _*_, _≤_}
 use native.Mathlib.Omega.{arith}
@@ -8,14 +8,14 @@ use lib.ListN.{length}
 use denote.Ref.{now}
 use Rattle.definitions.specs.Emitted.{conditionsCode}
 use Rattle.set_view.specs.Parts.{conditionsHere}
-use Rattle.rule.proofs.Laws.{code-length, code-none, rule-is-long}
+use Rattle.rule.proofs.Laws.{code-length, code-none, body-is-long}
 use Rattle.rule.proofs.rule_length.Statement.{statement}
 use Rattle.rule.proofs.rule_length.Tie as tie
 
 abbrev Inv-loop : tie.InvT-loop
 Inv-loop s n from count₀ d₀ here₀ left₀ count d here left =
-    (count + length (conditionsCode (conditionsHere s left here) d) ≡ 3 + length (conditionsCode (conditionsHere s n from) 1))
-    × (here + 24 * left ≤ length s) × (count + 9 * left ≤ 3 + 9 * n)
+    (count + length (conditionsCode (conditionsHere s left here) d) ≡ 1 + length (conditionsCode (conditionsHere s n from) 1))
+    × (here + 24 * left ≤ length s) × (count + 9 * left ≤ 1 + 9 * n)
 
 abbrev μ-loop : tie.MeasureT-loop
 μ-loop s n from count₀ d₀ here₀ left₀ count d here left = left
@@ -52,7 +52,7 @@ returns : tie.Need-returns Inv-loop μ-loop
 returns c =
     let s = now (c .before .before .before .args .s) in
     let none = ap length (code-none s (c .before .loop .left) (c .before .loop .here) (c .before .loop .d) (c .loop-test .left)) in
-    ((λ m. omega (arith, rule-is-long m (conditionsHere s (c .before .before .before .args .n) (c .before .before .before .args .from)))), omega arith)
+    ((λ m. omega (arith, body-is-long m (conditionsHere s (c .before .before .before .args .n) (c .before .before .before .args .from)))), omega arith)
 
 pub rule-length-spec : {M : Type 1} → statement M
 rule-length-spec =

@@ -1,27 +1,25 @@
--- `rules_length` meets its contract. The loop's invariant: the count and what is left make up the rules, and both end at one place.
--- Assumes nothing.
+-- `rules_length` meets its contract. The loop's invariant: the count and what is left make up the bodies, and both end at one place.
 use mathlib.Core.Path.{_≡_, refl, ap, sym, _∙_}
-use Prim.Native.Nat.{ℕ, _+_, _≤_}
+use Prim.Native.Nat.{ℕ, _+_, _*_, _-_, _≤_}
 use native.Mathlib.Omega.{arith}
-use lib.ListN.{length}
+use lib.ListN.{length, length-append}
 use denote.Ref.{now}
-use Rattle.definitions.specs.Emitted.{rulesCode}
-use Rattle.set_view.specs.Parts.{rulePast, rulesHere, rulesPast}
-use Rattle.set_view.proofs.Walk.{behind-more, behind-none, rule-inside}
-use Rattle.rule.proofs.Laws.{rules-are-long, rules-none}
+use Rattle.definitions.specs.Emitted.{ruleBody, ruleBodies}
+use Rattle.set_view.specs.Parts.{ruleHere, rulePast, rulesHere, rulesPast}
+use Rattle.set_view.proofs.Walk.{parts-more, parts-none, behind-more, behind-none, rule-inside}
 use Rattle.rule.proofs.rules_length.Statement.{statement}
 use Rattle.rule.proofs.rules_length.Tie as tie
 
 abbrev Inv-loop : tie.InvT-loop
 Inv-loop s n from count₀ past₀ left₀ count past left =
-    ((m : ℕ) → count + length (rulesCode m (rulesHere s left past)) ≡ length (rulesCode m (rulesHere s n from)))
-    × (rulesPast s left past ≡ rulesPast s n from) × (count + from ≤ past)
+    ((m : ℕ) → count + length (ruleBodies m (rulesHere s left past)) ≡ length (ruleBodies m (rulesHere s n from)))
+    × (rulesPast s left past ≡ rulesPast s n from) × (count + 3 * n + from ≤ past + 3 * left) × (left ≤ n)
 
 abbrev μ-loop : tie.MeasureT-loop
 μ-loop s n from count₀ past₀ left₀ count past left = left
 
 loop-holds : tie.Need-loop-holds Inv-loop μ-loop
-loop-holds c = ((λ m. omega arith), refl, omega arith)
+loop-holds c = ((λ m. omega arith), refl, omega arith, omega arith)
 
 u32-at-requires : tie.Need-u32-at-requires Inv-loop μ-loop
 u32-at-requires c κs =
@@ -63,8 +61,11 @@ loop-again c =
     let e = rw k at (c .rule-past .ensures) in (
       (λ m.
           let n = rw k at (c .before .rule-length .ensures .0 m) in
-          rw e (omega (arith, rules-are-long s left past m (c .before .before .before .loop-test .taken), c .before .before .before .before .loop .inv .0 m))),
+          let more : length (ruleBodies m (rulesHere s left past)) ≡ length (ruleBody m (ruleHere s past)) + length (ruleBodies m (rulesHere s (left - 1) (rulePast s past))) =
+          rw (parts-more (ruleHere s) (rulePast s) left past (c .before .before .before .loop-test .taken), length-append) in
+          rw e (omega (arith, c .before .before .before .before .loop .inv .0 m))),
       rw e (sym (behind-more (rulePast s) left past (c .before .before .before .loop-test .taken)) ∙ c .before .before .before .before .loop .inv .1),
+      omega arith,
       omega arith,
     )
 
@@ -74,7 +75,7 @@ returns c =
     let left = c .before .loop .left in
     let past = c .before .loop .past in
     let e = c .loop-test .left in (
-      (λ m. omega (arith, ap length (rules-none s left past m e), c .before .loop .inv .0 m)),
+      (λ m. omega (arith, ap (λ rs. length (ruleBodies m rs)) (parts-none (ruleHere s) (rulePast s) left past e), c .before .loop .inv .0 m)),
       sym (behind-none (rulePast s) left past e) ∙ c .before .loop .inv .1,
       omega arith,
     )
