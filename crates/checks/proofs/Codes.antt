@@ -19,7 +19,7 @@ use Rattle.definitions.specs.Kernel as kernel
 use Rattle.definitions.specs.Answer.{all}
 use Rattle.theorems.proofs.Tests.{both-true}
 use Rattle.definitions.specs.Word.{numberAt}
-use Rattle.bpf.proofs.Laws.{number-zero, number-suc}
+use Rattle.bpf.proofs.Buffer.{number-zero, number-suc}
 use Rattle.checks.specs.Codes.{constantLetter, checkLetter, effectLetter}
 
 -- ---- tables

@@ -13,7 +13,7 @@ use Rattle.definitions.specs.Word.{numberAt, AreBytes}
 use Rattle.definitions.specs.Format.{isThere, Read, then, check, widthOf, operatorOf, maskTaken, conditionAt}
 use Rattle.theorems.proofs.Names.{operator-there}
 use Rattle.theorems.proofs.Tests.{check-some, both-true}
-use Rattle.bpf.proofs.Laws.{number-suc}
+use Rattle.bpf.proofs.Buffer.{number-suc}
 use Rattle.set_view.specs.Parts.{conditionHere}
 use Rattle.set_view.proofs.Agree.{condition-agrees}
 use Rattle.judge.specs.Walk.{conditionTaken}

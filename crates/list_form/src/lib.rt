@@ -10,7 +10,7 @@ ghost use Rattle.definitions.specs.Machine.{filterBytes};
 ghost use Rattle.definitions.specs.Emitted as emitted;
 ghost use Rattle.definitions.specs.Emitted.{bodyCode, entryCode, entriesCode};
 ghost use Rattle.bpf.specs.Place.{place, Writing};
-ghost use Rattle.set_view.specs.Parts.{Reach, Readable, entriesHere, entriesPast, entryHere, entryPast, plainHere, rulesHere, rulesPast, setHere};
+ghost use Rattle.set_view.specs.Parts.{Reach, Readable, entriesHere, entriesPast, entryHere, entryPast, mostBytes, plainHere, rulesHere, rulesPast, setHere};
 use bpf::give;
 use bpf::if_equal;
 use bpf::jump_by;
@@ -66,7 +66,7 @@ fn put_entry(out: &mut [u8], s: &[u8], from: usize, at: usize, m: u32, d: u32) -
 
 // Writes an entry without rules at a place. Match action m, mismatch action d.
 fn put_listed(out: &mut [u8], s: &[u8], from: usize, at: usize, m: u32, d: u32)
-    requires { ⌜ (from + 8 ≤ length (now s)) × (length (now s) ≤ 1048576) × (numberAt 4 (now s) (from + 4) ≡ 0) × (at + 40 ≤ length (now out)) ⌝ }
+    requires { ⌜ (from + 8 ≤ length (now s)) × (length (now s) ≤ mostBytes) × (numberAt 4 (now s) (from + 4) ≡ 0) × (at + 40 ≤ length (now out)) ⌝ }
     ensures { λ _. ⌜ now (out .exit) ≡ place (now (out .entry)) at (filterBytes (entryCode m d (entryHere (now (s .entry)) from))) ⌝ }
 {
     let listed = bpf::u32_at(s, from);
@@ -78,11 +78,11 @@ fn put_listed(out: &mut [u8], s: &[u8], from: usize, at: usize, m: u32, d: u32)
 // Writes the first of n entries, as many as have no rules, and answers how many. They are most of most sets, so they have a loop of
 // their own, which carries little. Match action m, mismatch action d.
 fn put_plain(out: &mut [u8], s: &[u8], n: u32, from: usize, at: usize, m: u32, d: u32) -> u32
-    requires { ⌜ (entriesPast (now s) n from ≤ length (now s)) × (length (now s) ≤ 1048576) × (plainHere (now s) n from ≡ true) ⌝ }
+    requires { ⌜ (entriesPast (now s) n from ≤ length (now s)) × (length (now s) ≤ mostBytes) × (plainHere (now s) n from ≡ true) ⌝ }
     requires { ⌜ at + 8 * length (entriesCode m d (entriesHere (now s) n from)) ≤ length (now out) ⌝ }
     ensures { λ r. ⌜ Writing (now (out .entry)) at (entriesCode m d (entriesHere (now (s .entry)) n from))
         (now (out .exit)) (at + 40 * r) (entriesCode m d (entriesHere (now (s .entry)) (n - r) (from + 8 * r)))
-        × (entriesPast (now (s .entry)) (n - r) (from + 8 * r) ≡ entriesPast (now (s .entry)) n from) × (0 < r) × (r ≤ n) × (from + 8 * r ≤ 1048576) ⌝ }
+        × (entriesPast (now (s .entry)) (n - r) (from + 8 * r) ≡ entriesPast (now (s .entry)) n from) × (0 < r) × (r ≤ n) × (from + 8 * r ≤ mostBytes) ⌝ }
 {
     let mut run: u32 = 0;
     let mut past = from;
@@ -97,15 +97,15 @@ fn put_plain(out: &mut [u8], s: &[u8], n: u32, from: usize, at: usize, m: u32, d
 }
 
 // How many entries are left, and the places behind the others, where they were written and where they were read.
-pub struct Turn {
+pub struct Progress {
     pub left: u32,
     pub end: usize,
     pub past: usize,
 }
 
 // Writes the first of n entries: as many as have no rules, or one that has. Match action m, mismatch action d.
-fn put_turn(out: &mut [u8], s: &[u8], n: u32, from: usize, at: usize, m: u32, d: u32) -> Turn
-    requires { ⌜ (entriesPast (now s) n from ≤ length (now s)) × (length (now s) ≤ 1048576) × (n ≡ 0 → ⊥) ⌝ }
+fn put_turn(out: &mut [u8], s: &[u8], n: u32, from: usize, at: usize, m: u32, d: u32) -> Progress
+    requires { ⌜ (entriesPast (now s) n from ≤ length (now s)) × (length (now s) ≤ mostBytes) × (n ≡ 0 → ⊥) ⌝ }
     requires { ⌜ at + 8 * length (entriesCode m d (entriesHere (now s) n from)) ≤ length (now out) ⌝ }
     ensures { λ r. ⌜ Writing (now (out .entry)) at (entriesCode m d (entriesHere (now (s .entry)) n from))
         (now (out .exit)) (r .end) (entriesCode m d (entriesHere (now (s .entry)) (r .left) (r .past)))
@@ -114,14 +114,14 @@ fn put_turn(out: &mut [u8], s: &[u8], n: u32, from: usize, at: usize, m: u32, d:
     if set_view::plain_here(s, n, from) {
         let run = put_plain(out, s, n, from, at, m, d);
         let many = run as usize;
-        return Turn {
+        return Progress {
             left: n - run,
             end: at + 40 * many,
             past: from + 8 * many,
         };
     }
     let entry = put_entry(out, s, from, at, m, d);
-    Turn {
+    Progress {
         left: n - 1,
         end: entry.end,
         past: entry.past,

@@ -16,7 +16,7 @@ use Rattle.definitions.specs.Machine.{Call, callOf, words, fetch, instructionAt
 use Rattle.definitions.specs.Machine as machine
 use Rattle.theorems.proofs.Tests.{both-true}
 use Rattle.theorems.proofs.Words.{number-at-small}
-use Rattle.bpf.proofs.Laws.{number-8}
+use Rattle.bpf.proofs.Buffer.{number-8}
 use Rattle.machine.specs.declared.Way.the-variants.{Next, Returns, Stuck}
 use Rattle.machine.specs.declared.Step.{Step}
 use Rattle.definitions.specs.declared.Outcome.{Outcome}

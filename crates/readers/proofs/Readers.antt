@@ -16,7 +16,7 @@ use Rattle.definitions.specs.Format.{widthOf, operatorOf, maskTaken, Read, then
 use Rattle.definitions.specs.Parts.{conditionOf}
 use Rattle.definitions.specs.Readers.{reaches, atEntry, atRule, noCondition, conditionFrom, comparedOf}
 use Rattle.theorems.proofs.Tests.{both-true}
-use Rattle.bpf.proofs.Laws.{number-suc}
+use Rattle.bpf.proofs.Buffer.{number-suc}
 use Rattle.readers.specs.Tests.{conditionGood}
 use Rattle.readers.proofs.Names.{condition-numbers, numbers-there}
 

@@ -9,7 +9,7 @@ ghost use Rattle.definitions.specs.Emitted as emitted;
 ghost use Rattle.definitions.specs.Emitted.{helpers, stepCode, stepDistance, distance, ruleBody, ruleBodies};
 ghost use Rattle.bpf.specs.Place.{place, placeBefore, PutBefore};
 ghost use Rattle.rule.specs.Form.{ruleWith, rulesWith};
-ghost use Rattle.set_view.specs.Parts.{conditionsHere, rulesHere, rulesPast};
+ghost use Rattle.set_view.specs.Parts.{Reach, conditionsHere, rulesHere, rulesPast};
 use bpf::jump_by;
 use bpf::wide;
 use definitions::Condition;
@@ -97,7 +97,7 @@ fn put_step(out: &mut [u8], end: usize, q: Condition, d: u8) -> Put
 
 // How many instructions the body of a rule of n conditions has.
 fn rule_length(s: &[u8], n: u32, from: usize) -> usize
-    requires { ⌜ (from + 24 * n ≤ length (now s)) × (length (now s) ≤ 1048576) ⌝ }
+    requires { ⌜ Reach (now s) (from + 24 * n) ⌝ }
     ensures { λ r. ⌜ ((m : ℕ) → length (ruleBody m (conditionsHere (now (s .entry)) n from)) ≡ r) × (r ≤ 1 + 9 * n) ⌝ }
 {
     // the return
@@ -117,7 +117,7 @@ fn rule_length(s: &[u8], n: u32, from: usize) -> usize
 
 // Writes the body of a rule of n conditions so that it ends at a place, the return first, and answers the distance in front of it. Match action m.
 fn put_rule_body(out: &mut [u8], s: &[u8], n: u32, from: usize, end: usize, m: u32) -> u8
-    requires { ⌜ (from + 24 * n ≤ length (now s)) × (length (now s) ≤ 1048576) ⌝ }
+    requires { ⌜ Reach (now s) (from + 24 * n) ⌝ }
     requires { ⌜ (8 * length (ruleBody m (conditionsHere (now s) n from)) ≤ end) × (end ≤ length (now out)) ⌝ }
     ensures { λ r. ⌜ (now (out .exit) ≡ placeBefore (now (out .entry)) end (filterBytes (ruleBody m (conditionsHere (now (s .entry)) n from))))
         × (r ≡ distance (conditionsHere (now (s .entry)) n from) 1) ⌝ }
@@ -139,7 +139,7 @@ fn put_rule_body(out: &mut [u8], s: &[u8], n: u32, from: usize, end: usize, m: u
 
 // Writes a rule of n conditions at a place, behind its two jumps or without them, and answers the place behind it. Match action m.
 fn put_rule(out: &mut [u8], s: &[u8], n: u32, from: usize, at: usize, m: u32, jumps: bool) -> usize
-    requires { ⌜ (from + 24 * n ≤ length (now s)) × (length (now s) ≤ 1048576) ⌝ }
+    requires { ⌜ Reach (now s) (from + 24 * n) ⌝ }
     requires { ⌜ at + 8 * length (ruleWith jumps m (conditionsHere (now s) n from)) ≤ length (now out) ⌝ }
     ensures { λ r. ⌜ (now (out .exit) ≡ place (now (out .entry)) at (filterBytes (ruleWith jumps m (conditionsHere (now (s .entry)) n from))))
         × (r ≡ at + 8 * length (ruleWith jumps m (conditionsHere (now (s .entry)) n from))) ⌝ }
@@ -162,7 +162,7 @@ pub struct Length {
 }
 
 pub fn rules_length(s: &[u8], n: u32, from: usize) -> Length
-    requires { ⌜ (rulesPast (now s) n from ≤ length (now s)) × (length (now s) ≤ 1048576) ⌝ }
+    requires { ⌜ Reach (now s) (rulesPast (now s) n from) ⌝ }
     ensures { λ r. ⌜ ((m : ℕ) → length (ruleBodies m (rulesHere (now (s .entry)) n from)) ≡ r .count)
         × (r .past ≡ rulesPast (now (s .entry)) n from) × (r .count + 3 * n + from ≤ r .past) ⌝ }
 {
@@ -197,7 +197,7 @@ pub fn put_rules(
     m: u32,
     jumps: bool,
 ) -> Written
-    requires { ⌜ (rulesPast (now s) n from ≤ length (now s)) × (length (now s) ≤ 1048576) ⌝ }
+    requires { ⌜ Reach (now s) (rulesPast (now s) n from) ⌝ }
     requires { ⌜ at + 8 * length (rulesWith jumps m (rulesHere (now s) n from)) ≤ length (now out) ⌝ }
     ensures { λ r. ⌜ (now (out .exit) ≡ place (now (out .entry)) at (filterBytes (rulesWith jumps m (rulesHere (now (s .entry)) n from))))
         × (r .end ≡ at + 8 * length (rulesWith jumps m (rulesHere (now (s .entry)) n from)))

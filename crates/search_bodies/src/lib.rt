@@ -7,14 +7,14 @@ ghost use Rattle.definitions.specs.Machine.{filterBytes};
 ghost use Rattle.bpf.specs.Place.{place};
 ghost use Rattle.search_form.specs.Search.{bodies};
 ghost use Rattle.definitions.specs.Emitted.{entryBody};
-ghost use Rattle.set_view.specs.Parts.{entriesHere, entriesPast, rulesHere, rulesPast};
+ghost use Rattle.set_view.specs.Parts.{Reach, entriesHere, entriesPast, rulesHere, rulesPast};
 ghost use Rattle.search_bodies.specs.Here.{bodiesHere};
 use rule::Length;
 use rule::Written;
 
 // How many instructions the n rules of an entry have here, and the place behind them in the rule set.
 pub fn body_length(s: &[u8], n: u32, from: usize) -> Length
-    requires { ⌜ (rulesPast (now s) n from ≤ length (now s)) × (length (now s) ≤ 1048576) ⌝ }
+    requires { ⌜ Reach (now s) (rulesPast (now s) n from) ⌝ }
     ensures { λ r. ⌜ ((m d : ℕ) → length (entryBody m d (rulesHere (now (s .entry)) n from)) ≡ r .count)
         × (r .past ≡ rulesPast (now (s .entry)) n from) × (r .count + from ≤ r .past) ⌝ }
 {
@@ -34,7 +34,7 @@ pub fn body_length(s: &[u8], n: u32, from: usize) -> Length
 
 // How many instructions the code of the n entries' rules has, with the return behind it.
 pub fn bodies_length(s: &[u8], n: u32, from: usize) -> usize
-    requires { ⌜ (entriesPast (now s) n from ≤ length (now s)) × (length (now s) ≤ 1048576) ⌝ }
+    requires { ⌜ Reach (now s) (entriesPast (now s) n from) ⌝ }
     ensures { λ r. ⌜ (r ≡ length (bodiesHere (now (s .entry)) n from)) × (r ≤ 1048577) ⌝ }
 {
     let mut count: usize = 1;
@@ -60,7 +60,7 @@ fn put_entry_body(
     m: u32,
     d: u32,
 ) -> Written
-    requires { ⌜ (rulesPast (now s) n from ≤ length (now s)) × (length (now s) ≤ 1048576) ⌝ }
+    requires { ⌜ Reach (now s) (rulesPast (now s) n from) ⌝ }
     requires { ⌜ at + 8 * length (entryBody m d (rulesHere (now s) n from)) ≤ length (now out) ⌝ }
     ensures { λ r. ⌜ (now (out .exit) ≡ place (now (out .entry)) at (filterBytes (entryBody m d (rulesHere (now (s .entry)) n from))))
         × (r .end ≡ at + 8 * length (entryBody m d (rulesHere (now (s .entry)) n from)))
@@ -83,7 +83,7 @@ fn put_entry_body(
 
 // Writes the rules of n entries at a place, with a mismatch return behind them. Match action m, mismatch action d.
 pub fn put_bodies(out: &mut [u8], s: &[u8], n: u32, from: usize, at: usize, m: u32, d: u32)
-    requires { ⌜ (entriesPast (now s) n from ≤ length (now s)) × (length (now s) ≤ 1048576) ⌝ }
+    requires { ⌜ Reach (now s) (entriesPast (now s) n from) ⌝ }
     requires { ⌜ at + 8 * length (bodies m d (entriesHere (now s) n from)) ≤ length (now out) ⌝ }
     ensures { λ _. ⌜ now (out .exit) ≡ place (now (out .entry)) at (filterBytes (bodies m d (entriesHere (now (s .entry)) n from))) ⌝ }
 {

@@ -1,4 +1,4 @@
--- Laws of spans that are halved until few are left, the first n of some that stand one behind the other. Assumes nothing.
+-- Laws of spans that are halved until few are left, the first n of some that stand one behind the other.
 use mathlib.Core.Path.{_≡_, refl, sym, ap, _∙_}
 use mathlib.Core.Bool.{Bool, true, false, not, _&&_, _||_}
 use mathlib.Core.List.{List, [], _∷_}

@@ -1,4 +1,4 @@
--- Laws of the tree of a whole rule set, planted in front of the code of its rules, and of the filter that they make. Assumes nothing.
+-- Laws of the tree of a whole rule set, planted in front of the code of its rules, and of the filter that they make.
 use mathlib.Core.Path.{_≡_, refl, sym, _∙_}
 use mathlib.Core.Bool.{false}
 use mathlib.Core.List.{List, _++_}
@@ -10,8 +10,8 @@ use Rattle.definitions.specs.declared.Instruction.{Instruction}
 use Rattle.definitions.specs.Word.{numberAt}
 use Rattle.definitions.specs.Machine.{filterBytes}
 use Rattle.bpf.specs.Place.{place, placeBefore}
-use Rattle.bpf.proofs.Laws.{puts-before, before-is}
-use Rattle.list_form.proofs.Laws.{headHere, headed-is}
+use Rattle.bpf.proofs.Buffer.{puts-before, before-is}
+use Rattle.list_form.proofs.Filters.{headHere, headed-is}
 use Rattle.search_form.specs.Search.{jumpReach, blockReach, bodies, toMismatch, toMatch, toRules, Tree, leaf, node, block, grow, Form, plantLeaf, openBlock, plant, ground, tree, planted, searchForm}
 use Rattle.search_form.proofs.Sizes.{place-adds, return-adds, compare-size}
 use Rattle.search_form.proofs.Shorter.{planted-none}

@@ -1,5 +1,5 @@
 -- Laws of a form that grows in front while it is written: an instruction more, a place that can be jumped to, a comparison, and the
--- trees that they make. Assumes nothing.
+-- trees that they make.
 use mathlib.Core.Path.{_≡_, refl, sym, subst}
 use mathlib.Core.Bool.{Bool, true, false}
 use mathlib.Core.List.{List, [], _∷_}
@@ -13,7 +13,7 @@ use Rattle.definitions.specs.Machine.{instructionBytes, filterBytes}
 use Rattle.definitions.specs.Emitted.{jumpBy, return}
 use Rattle.theorems.proofs.Tests.{both-true}
 use Rattle.bpf.specs.Place.{place}
-use Rattle.bpf.proofs.Laws.{put-first, puts-before, before-is}
+use Rattle.bpf.proofs.Buffer.{put-first, puts-before, before-is}
 use Rattle.search_form.specs.Search.{toMismatch, Span, singles, chain, blockReach, openBlock, blockIf, endsBy, upTo, link, Comparison, equal, atLeast, above, Tree, leaf, node, Spot, inFront, jumpReach, away, nearPlace, nearReturn, plantLeaf, comparing, compareFirst, plant}
 use Rattle.spans.specs.Spans.{destination}
 use Rattle.spans.proofs.Reading.{take-more, singles-more}

@@ -14,11 +14,11 @@ ghost use Rattle.bpf.specs.Place.{place, placeBefore};
 ghost use Rattle.search_form.specs.Search.{singles, away, nearPlace, nearReturn, leaf, toMismatch, plant, Comparison, compareFirst, endsBy, upTo, link, chain, grow, searchForm};
 ghost use Rattle.search_bodies.specs.Here.{bodiesHere};
 ghost use Rattle.spans.specs.Spans.{spansFrom, spanOf, destination, Stands};
-ghost use Rattle.set_view.specs.Parts.{Readable, entriesPast, setHere};
+ghost use Rattle.set_view.specs.Parts.{Readable, entriesPast, mostBytes, setHere};
 ghost use Rattle.search_writer.specs.Forms.{Ends, Reaches, Ready, Grew, Makes, toReturn, openIf, codeOf, plantedHere};
 use definitions::Instruction;
-use spans::Cursor;
 use spans::Run;
+use spans::Standing;
 
 // How far a comparison may have to jump.
 const JUMP_REACH: usize = 250;
@@ -228,7 +228,7 @@ fn put_chain(
     out: &mut [u8],
     plan: Plan,
     s: &[u8],
-    c: Cursor,
+    c: Standing,
     n: usize,
     from: u32,
     below: u32,
@@ -283,7 +283,7 @@ fn put_tree(
     out: &mut [u8],
     plan: Plan,
     s: &[u8],
-    c: Cursor,
+    c: Standing,
     n: usize,
     inside: bool,
     from: u32,
@@ -314,7 +314,7 @@ fn put_tree(
 // Writes the tree of the n entries in front of the code of their rules, which has `total` instructions and ends at a place, and answers
 // how many there are then. With nothing listed there is no tree.
 fn put_planted(out: &mut [u8], end: usize, s: &[u8], n: u32, total: usize) -> usize
-    requires { ⌜ (end ≤ length (now out)) × (16 ≤ length (now s)) × (length (now s) ≤ 1048576) × (entriesPast (now s) n 16 ≤ length (now s)) ⌝ }
+    requires { ⌜ (end ≤ length (now out)) × (16 ≤ length (now s)) × (length (now s) ≤ mostBytes) × (entriesPast (now s) n 16 ≤ length (now s)) ⌝ }
     requires { ⌜ (total ≡ length (bodiesHere (now s) n 16)) × (total ≤ 1048577) ⌝ }
     ensures { λ r. ⌜ (r ≤ 16777216) × ((z : List ℕ) → Ends z end (bodiesHere (now (s .entry)) n 16) (now (out .entry))
         → (r ≡ length (plantedHere (now (s .entry)) n)) × Ends z end (plantedHere (now (s .entry)) n) (now (out .exit))) ⌝ }
@@ -327,7 +327,7 @@ fn put_planted(out: &mut [u8], end: usize, s: &[u8], n: u32, total: usize) -> us
         m: bpf::u32_at(s, 8),
         d: bpf::u32_at(s, 4),
     };
-    let c = Cursor {
+    let c = Standing {
         at: 16,
         left: n,
         place: total,
@@ -346,7 +346,7 @@ fn put_planted(out: &mut [u8], end: usize, s: &[u8], n: u32, total: usize) -> us
 
 // Writes the tree of the n entries and the code of their rules, so that they end where a filter of `count` instructions does.
 fn put_searched(out: &mut [u8], s: &[u8], n: u32, count: usize)
-    requires { ⌜ (16 ≤ length (now s)) × (length (now s) ≤ 1048576) × (entriesPast (now s) n 16 ≤ length (now s)) ⌝ }
+    requires { ⌜ (16 ≤ length (now s)) × (length (now s) ≤ mostBytes) × (entriesPast (now s) n 16 ≤ length (now s)) ⌝ }
     requires { ⌜ (length (plantedHere (now s) n) ≤ count) × (8 * count ≤ length (now out)) ⌝ }
     ensures { λ _. ⌜ now (out .exit) ≡ placeBefore (now (out .entry)) (8 * count) (filterBytes (plantedHere (now (s .entry)) n)) ⌝ }
 {

@@ -117,7 +117,7 @@ pub fn condition_here(s: &[u8], at: usize) -> Condition
 
 // Where the conditions of a rule end, the rule standing at a place with its number of conditions.
 pub fn rule_past(at: usize, n: u32) -> usize
-    requires { ⌜ at + 4 + 24 * n ≤ 1048576 ⌝ }
+    requires { ⌜ at + 4 + 24 * n ≤ mostBytes ⌝ }
     ensures { λ r. ⌜ r ≡ at + 4 + 24 * n ⌝ }
 {
     at + 4 + CONDITION_SIZE * (n as usize)
@@ -125,7 +125,7 @@ pub fn rule_past(at: usize, n: u32) -> usize
 
 // Where n rules end.
 pub fn rules_past(s: &[u8], n: u32, from: usize) -> usize
-    requires { ⌜ (rulesPast (now s) n from ≤ length (now s)) × (length (now s) ≤ 1048576) ⌝ }
+    requires { ⌜ Reach (now s) (rulesPast (now s) n from) ⌝ }
     ensures { λ r. ⌜ r ≡ rulesPast (now (s .entry)) n from ⌝ }
 {
     let mut at = from;
@@ -140,7 +140,7 @@ pub fn rules_past(s: &[u8], n: u32, from: usize) -> usize
 
 // Whether an entry is left, and it has no rules.
 pub fn plain_here(s: &[u8], left: u32, at: usize) -> bool
-    requires { ⌜ (entriesPast (now s) left at ≤ length (now s)) × (length (now s) ≤ 1048576) ⌝ }
+    requires { ⌜ Reach (now s) (entriesPast (now s) left at) ⌝ }
     ensures { λ r. ⌜ r ≡ plainHere (now (s .entry)) left at ⌝ }
 {
     if left == 0 {

@@ -1,4 +1,4 @@
--- Laws of the spans that are read from a rule set's bytes: a number more gathered into a run, and a run passed. Assumes nothing.
+-- Laws of the spans that are read from a rule set's bytes: a number more gathered into a run, and a run passed.
 use mathlib.Core.Path.{_≡_, refl}
 use mathlib.Core.Bool.{Bool, true, false, cond, not, _&&_}
 use mathlib.Core.List.{List, [], _∷_}
@@ -13,10 +13,10 @@ use Rattle.theorems.proofs.Tests.{both-true}
 use Rattle.search_form.specs.Search.{bodies, toMatch, toRules, Span, isMatch, alone, plainSpans, entrySpans, spans, lowest, singles}
 use Rattle.search_form.proofs.Spans.{spans-some}
 use Rattle.search_bodies.specs.Here.{bodiesHere}
-use Rattle.search_bodies.proofs.Laws.{entries-here, bodies-long, bodies-there, entry-body-none}
+use Rattle.search_bodies.proofs.Bodies.{entries-here, bodies-long, bodies-there, entry-body-none}
 use Rattle.set_view.specs.Parts.{entriesHere, entriesPast, entryHere, entryPast, parts, plainHere, rulesHere}
 use Rattle.set_view.proofs.Walk.{behind-more, entries-further, plain-is, plain-past}
-use Rattle.spans.specs.declared.Cursor.{Cursor}
+use Rattle.spans.specs.declared.Standing.{Standing}
 use Rattle.spans.specs.declared.Run.{Run}
 use Rattle.spans.specs.Spans.{spansHere, spansFrom, destination, Stands, Passes, Gathers, IsNext}
 
@@ -162,7 +162,7 @@ follows-is s n at last e =
 
 -- ---- the run at a cursor
 
-pub run-plain : (s : List ℕ) (c p : Cursor) (r : Run) (number : ℕ) → number ≡ numberAt 4 s (c .at) → numberAt 4 s (c .at + 4) ≡ 0
+pub run-plain : (s : List ℕ) (c p : Standing) (r : Run) (number : ℕ) → number ≡ numberAt 4 s (c .at) → numberAt 4 s (c .at + 4) ≡ 0
     → Passes s c p → Gathers s p number r → IsNext s c r
 run-plain s c p r number e z passed g =
     record {
@@ -178,7 +178,7 @@ unfolding destination
 there zero h = absurd (omega arith)
 there (suc n) h = refl
 
-pub run-ruled : (s : List ℕ) (c p : Cursor) (number : ℕ) → number ≡ numberAt 4 s (c .at) → (numberAt 4 s (c .at + 4) ≡ 0 → ⊥)
+pub run-ruled : (s : List ℕ) (c p : Standing) (number : ℕ) → number ≡ numberAt 4 s (c .at) → (numberAt 4 s (c .at + 4) ≡ 0 → ⊥)
     → Stands s c → Passes s c p → IsNext s c (record { first = number; last = number; place = c .place; next = p })
 run-ruled s c p number e z stood passed =
     let b = rw (stood .place) at (bodies-there s (c .left) (c .at) (numberAt 4 s 8) (numberAt 4 s 4)) in
@@ -193,7 +193,7 @@ run-ruled s c p number e z stood passed =
 -- ---- runs passed one by one
 
 -- where a span is left, an entry is
-pub span-left : (s : List ℕ) (c : Cursor) (n : ℕ) → (n ≡ 0 → ⊥) → n ≤ length (spansFrom s c) → c .left ≡ 0 → ⊥
+pub span-left : (s : List ℕ) (c : Standing) (n : ℕ) → (n ≡ 0 → ⊥) → n ≤ length (spansFrom s c) → c .left ≡ 0 → ⊥
 span-left s c n some h e =
     let z = rw (spans-none s (c .left) (c .at) e) at h in
     some (omega arith)

@@ -6,8 +6,8 @@ use lib.ListN.{length}
 use Rattle.definitions.specs.Word.{numberAt}
 use Rattle.search_form.specs.Search.{Destination, toMatch, toRules, Span, plainSpans, spans}
 use Rattle.search_bodies.specs.Here.{bodiesHere}
-use Rattle.set_view.specs.Parts.{entriesHere, entriesPast, entryHere}
-use Rattle.spans.specs.declared.Cursor.{Cursor}
+use Rattle.set_view.specs.Parts.{mostBytes, entriesHere, entriesPast, entryHere}
+use Rattle.spans.specs.declared.Standing.{Standing}
 use Rattle.spans.specs.declared.Run.{Run}
 
 -- the spans of n entries from a place, in the set's own actions
@@ -15,17 +15,17 @@ abbrev pub spansHere : List ℕ → ℕ → ℕ → List Span
 spansHere s n at = spans (numberAt 4 s 8) (numberAt 4 s 4) (entriesHere s n at)
 
 -- the same from a cursor on
-abbrev pub spansFrom : List ℕ → Cursor → List Span
+abbrev pub spansFrom : List ℕ → Standing → List Span
 spansFrom s c = spansHere s (c .left) (c .at)
 
 -- a cursor that stands in the set, and knows the place of the rules that are left
-pub record Stands (s : List ℕ) (c : Cursor) : Type 0 where
+pub record Stands (s : List ℕ) (c : Standing) : Type 0 where
   pub inside : entriesPast s (c .left) (c .at) ≤ length s
-  pub size : length s ≤ 1048576
+  pub size : length s ≤ mostBytes
   pub place : length (bodiesHere s (c .left) (c .at)) ≡ c .place
 
 -- the first of the entries is passed
-pub record Passes (s : List ℕ) (c r : Cursor) : Type 0 where
+pub record Passes (s : List ℕ) (c r : Standing) : Type 0 where
   pub entries : entriesHere s (c .left) (c .at) ≡ entryHere s (c .at) ∷ entriesHere s (r .left) (r .at)
   pub stands : Stands s r
   pub fewer : r .left < c .left
@@ -40,7 +40,7 @@ abbrev pub spanOf : Run → Span
 spanOf r = record { first = r .first; last = r .last; to = destination (r .place) }
 
 -- a number without rules, with those behind it that follow it
-pub record Gathers (s : List ℕ) (c : Cursor) (first : ℕ) (r : Run) : Type 0 where
+pub record Gathers (s : List ℕ) (c : Standing) (first : ℕ) (r : Run) : Type 0 where
   pub spans : plainSpans first (spansFrom s c) ≡ spanOf r ∷ spansFrom s (r .next)
   pub stands : Stands s (r .next)
   pub fewer : r .next .left ≤ c .left
@@ -48,7 +48,7 @@ pub record Gathers (s : List ℕ) (c : Cursor) (first : ℕ) (r : Run) : Type 0 
   pub place : r .place ≡ 0
 
 -- the run that stands at a cursor
-pub record IsNext (s : List ℕ) (c : Cursor) (r : Run) : Type 0 where
+pub record IsNext (s : List ℕ) (c : Standing) (r : Run) : Type 0 where
   pub spans : spansFrom s c ≡ spanOf r ∷ spansFrom s (r .next)
   pub stands : Stands s (r .next)
   pub fewer : r .next .left < c .left

@@ -7,14 +7,14 @@ ghost use lib.Dec.{eqb};
 ghost use lib.ListN.{length, take, drop};
 ghost use Rattle.definitions.specs.Word.{numberAt};
 ghost use Rattle.search_form.specs.Search.{singles, few};
-ghost use Rattle.set_view.specs.Parts.{entriesPast, plainHere};
+ghost use Rattle.set_view.specs.Parts.{Reach, entriesPast, plainHere};
 ghost use Rattle.spans.specs.Spans.{spansFrom, Stands, Passes, Gathers, IsNext};
 
 // How many single numbers are compared one after the other at most.
 const CHAIN_SPANS: usize = 3;
 
 // Where entries are read: the place, how many are left, and where the code of their rules begins, counted from the filter's end.
-pub struct Cursor {
+pub struct Standing {
     pub at: usize,
     pub left: u32,
     pub place: usize,
@@ -25,18 +25,18 @@ pub struct Run {
     pub first: u32,
     pub last: u32,
     pub place: usize,
-    pub next: Cursor,
+    pub next: Standing,
 }
 
 // Passes the first entry.
-fn pass(s: &[u8], c: Cursor) -> Cursor
+fn pass(s: &[u8], c: Standing) -> Standing
     requires { ⌜ Stands (now s) c × (c .left ≡ 0 → ⊥) ⌝ }
     ensures { λ r. ⌜ Passes (now (s .entry)) c r ⌝ }
 {
     let at = c.at;
     let rules = bpf::u32_at(s, at + 4);
     let body = search_bodies::body_length(s, rules, at + 8);
-    Cursor {
+    Standing {
         at: body.past,
         left: c.left - 1,
         place: c.place - body.count,
@@ -45,7 +45,7 @@ fn pass(s: &[u8], c: Cursor) -> Cursor
 
 // Whether an entry is left, has no rules, and is listed right behind the number `last`.
 fn follows(s: &[u8], left: u32, at: usize, last: u32) -> bool
-    requires { ⌜ (entriesPast (now s) left at ≤ length (now s)) × (length (now s) ≤ 1048576) ⌝ }
+    requires { ⌜ Reach (now s) (entriesPast (now s) left at) ⌝ }
     ensures { λ r. ⌜ r ≡ (plainHere (now (s .entry)) left at && eqb (numberAt 4 (now (s .entry)) at) (last + 1)) ⌝ }
 {
     if set_view::plain_here(s, left, at) {
@@ -56,7 +56,7 @@ fn follows(s: &[u8], left: u32, at: usize, last: u32) -> bool
 }
 
 // The run of a number without rules, the cursor standing behind its entry.
-fn gather(s: &[u8], c: Cursor, first: u32) -> Run
+fn gather(s: &[u8], c: Standing, first: u32) -> Run
     requires { ⌜ Stands (now s) c ⌝ }
     ensures { λ r. ⌜ Gathers (now (s .entry)) c first r ⌝ }
 {
@@ -68,7 +68,7 @@ fn gather(s: &[u8], c: Cursor, first: u32) -> Run
         at = at + 8;
         left = left - 1;
     }
-    let next = Cursor {
+    let next = Standing {
         at: at,
         left: left,
         place: c.place,
@@ -82,7 +82,7 @@ fn gather(s: &[u8], c: Cursor, first: u32) -> Run
 }
 
 // The first run.
-pub fn next_run(s: &[u8], c: Cursor) -> Run
+pub fn next_run(s: &[u8], c: Standing) -> Run
     requires { ⌜ Stands (now s) c × (c .left ≡ 0 → ⊥) ⌝ }
     ensures { λ r. ⌜ IsNext (now (s .entry)) c r ⌝ }
 {
@@ -102,7 +102,7 @@ pub fn next_run(s: &[u8], c: Cursor) -> Run
 }
 
 // How many runs there are.
-pub fn count_runs(s: &[u8], c: Cursor) -> usize
+pub fn count_runs(s: &[u8], c: Standing) -> usize
     requires { ⌜ Stands (now s) c ⌝ }
     ensures { λ r. ⌜ (r ≡ length (spansFrom (now (s .entry)) c)) × (r ≤ c .left) ⌝ }
 {
@@ -117,7 +117,7 @@ pub fn count_runs(s: &[u8], c: Cursor) -> usize
 }
 
 // Passes n runs.
-pub fn skip(s: &[u8], c: Cursor, n: usize) -> Cursor
+pub fn skip(s: &[u8], c: Standing, n: usize) -> Standing
     requires { ⌜ Stands (now s) c × (n ≤ length (spansFrom (now s) c)) ⌝ }
     ensures { λ r. ⌜ Stands (now (s .entry)) r × (spansFrom (now (s .entry)) r ≡ drop n (spansFrom (now (s .entry)) c)) × (r .place ≤ c .place) ⌝ }
 {
@@ -132,7 +132,7 @@ pub fn skip(s: &[u8], c: Cursor, n: usize) -> Cursor
 }
 
 // Whether the first n runs are one number each.
-fn all_single(s: &[u8], c: Cursor, n: usize) -> bool
+fn all_single(s: &[u8], c: Standing, n: usize) -> bool
     requires { ⌜ Stands (now s) c × (n ≤ length (spansFrom (now s) c)) ⌝ }
     ensures { λ r. ⌜ r ≡ singles (take n (spansFrom (now (s .entry)) c)) ⌝ }
 {
@@ -150,7 +150,7 @@ fn all_single(s: &[u8], c: Cursor, n: usize) -> bool
 }
 
 // Whether the first n runs are compared one after the other.
-pub fn is_few(s: &[u8], c: Cursor, n: usize) -> bool
+pub fn is_few(s: &[u8], c: Standing, n: usize) -> bool
     requires { ⌜ Stands (now s) c × (n ≤ length (spansFrom (now s) c)) ⌝ }
     ensures { λ r. ⌜ r ≡ few (take n (spansFrom (now (s .entry)) c)) ⌝ }
 {

@@ -1,4 +1,4 @@
-pub mod Laws
+pub mod Stores
 pub mod Codes
 pub mod Names
 pub mod Sets

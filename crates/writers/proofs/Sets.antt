@@ -12,7 +12,7 @@ use Rattle.definitions.specs.Compiled.{FormOf}
 use Rattle.definitions.specs.Parts.{onLast, onEntries}
 use Rattle.theorems.proofs.Words.{length-bytes}
 use Rattle.bpf.specs.Place.{place}
-use Rattle.writers.proofs.Laws.{raised, part-taken}
+use Rattle.writers.proofs.Stores.{raised, part-taken}
 
 -- ---- the last of a list
 

@@ -15,7 +15,7 @@ ghost use Rattle.writers.specs.Bytes.{headBytes, namesBytes, conditionBy
 use definitions::Writer;
 
 // Writes the low four bytes of a number at a place.
-fn put_u32(out: &mut [u8], at: usize, v: u64)
+fn write_u32(out: &mut [u8], at: usize, v: u64)
     requires { ⌜ at + 4 ≤ length (now out) ⌝ }
     ensures { λ _. ⌜ now (out .exit) ≡ place (now (out .entry)) at (bytesOf 4 v) ⌝ }
 {
@@ -25,12 +25,12 @@ fn put_u32(out: &mut [u8], at: usize, v: u64)
     out[at + 3] = (v / 256 / 256 / 256 % 256) as u8;
 }
 
-fn put_u64(out: &mut [u8], at: usize, v: u64)
+fn write_u64(out: &mut [u8], at: usize, v: u64)
     requires { ⌜ at + 8 ≤ length (now out) ⌝ }
     ensures { λ _. ⌜ now (out .exit) ≡ place (now (out .entry)) at (bytesOf 8 v) ⌝ }
 {
-    put_u32(out, at, v);
-    put_u32(out, at + 4, v / 256 / 256 / 256 / 256);
+    write_u32(out, at, v);
+    write_u32(out, at + 4, v / 256 / 256 / 256 / 256);
 }
 
 // Raises the count at a place.
@@ -39,7 +39,7 @@ fn raise(out: &mut [u8], at: usize)
     ensures { λ _. ⌜ now (out .exit) ≡ place (now (out .entry)) at (bytesOf 4 (numberAt 4 (now (out .entry)) at + 1)) ⌝ }
 {
     let count = bpf::u32_at(out, at);
-    put_u32(out, at, count as u64 + 1);
+    write_u32(out, at, count as u64 + 1);
 }
 
 fn told(w: Writer, code: u32) -> Writer
@@ -92,14 +92,14 @@ fn verdict(size: usize, w: Writer, good: bool, ordered: bool, more: usize) -> u3
 }
 
 // Writes the head of a set with no entries.
-fn put_head(out: &mut [u8], architecture: u32, mismatch: u32, on_match: u32)
+fn write_head(out: &mut [u8], architecture: u32, mismatch: u32, on_match: u32)
     requires { ⌜ 16 ≤ length (now out) ⌝ }
     ensures { λ _. ⌜ now (out .exit) ≡ place (now (out .entry)) 0 (headBytes architecture mismatch «on_match») ⌝ }
 {
-    put_u32(out, 0, architecture as u64);
-    put_u32(out, 4, mismatch as u64);
-    put_u32(out, 8, on_match as u64);
-    put_u32(out, 12, 0);
+    write_u32(out, 0, architecture as u64);
+    write_u32(out, 4, mismatch as u64);
+    write_u32(out, 8, on_match as u64);
+    write_u32(out, 12, 0);
 }
 
 // What a refused start leaves: a state that no writer takes.
@@ -124,7 +124,7 @@ pub fn start(out: &mut [u8], architecture: u32, mismatch: u32, on_match: u32) ->
     if out.len() < 16 {
         return not_started(3);
     }
-    put_head(out, architecture, mismatch, on_match);
+    write_head(out, architecture, mismatch, on_match);
     Writer {
         code: 0,
         end: 16,
@@ -134,12 +134,12 @@ pub fn start(out: &mut [u8], architecture: u32, mismatch: u32, on_match: u32) ->
 }
 
 // Writes an entry with no rules.
-fn put_entry(out: &mut [u8], at: usize, number: u32)
+fn write_entry(out: &mut [u8], at: usize, number: u32)
     requires { ⌜ at + 8 ≤ length (now out) ⌝ }
     ensures { λ _. ⌜ now (out .exit) ≡ place (now (out .entry)) at (bytesOf 4 number ++ bytesOf 4 0) ⌝ }
 {
-    put_u32(out, at, number as u64);
-    put_u32(out, at + 4, 0);
+    write_u32(out, at, number as u64);
+    write_u32(out, at + 4, 0);
 }
 
 // Lists a number, which matches whatever its arguments are until a rule is begun for it.
@@ -150,7 +150,7 @@ pub fn list(out: &mut [u8], w: Writer, number: u32) -> Writer
     if code != 0 {
         return told(w, code);
     }
-    put_entry(out, w.end as usize, number);
+    write_entry(out, w.end as usize, number);
     raise(out, 12);
     Writer {
         code: 0,
@@ -168,7 +168,7 @@ pub fn begin_rule(out: &mut [u8], w: Writer) -> Writer
     if code != 0 {
         return told(w, code);
     }
-    put_u32(out, w.end as usize, 0);
+    write_u32(out, w.end as usize, 0);
     raise(out, w.entry as usize + 4);
     Writer {
         code: 0,
@@ -179,7 +179,7 @@ pub fn begin_rule(out: &mut [u8], w: Writer) -> Writer
 }
 
 // Writes the first eight bytes of a condition.
-fn put_names(out: &mut [u8], at: usize, index: u8, width: u8, operator: u8)
+fn write_names(out: &mut [u8], at: usize, index: u8, width: u8, operator: u8)
     requires { ⌜ at + 8 ≤ length (now out) ⌝ }
     ensures { λ _. ⌜ now (out .exit) ≡ place (now (out .entry)) at (namesBytes index width operator) ⌝ }
 {
@@ -193,7 +193,7 @@ fn put_names(out: &mut [u8], at: usize, index: u8, width: u8, operator: u8)
     out[at + 7] = 0;
 }
 
-fn put_condition(
+fn write_condition(
     out: &mut [u8],
     at: usize,
     index: u8,
@@ -205,9 +205,9 @@ fn put_condition(
     requires { ⌜ at + 24 ≤ length (now out) ⌝ }
     ensures { λ _. ⌜ now (out .exit) ≡ place (now (out .entry)) at (conditionBytes index width operator value mask) ⌝ }
 {
-    put_names(out, at, index, width, operator);
-    put_u64(out, at + 8, value);
-    put_u64(out, at + 16, mask);
+    write_names(out, at, index, width, operator);
+    write_u64(out, at + 8, value);
+    write_u64(out, at + 16, mask);
 }
 
 // Adds a condition to the rule that was begun last. Every index that a byte holds is taken, as in the format: which ones a call has is
@@ -228,7 +228,7 @@ pub fn add_condition(
     if why != 0 {
         return told(w, why);
     }
-    put_condition(out, w.end as usize, index, width, operator, value, mask);
+    write_condition(out, w.end as usize, index, width, operator, value, mask);
     raise(out, w.rule as usize);
     Writer {
         code: 0,

@@ -1,10 +1,10 @@
--- `put` meets its contract: its eight stores are one `place`. Assumes nothing.
+-- `put` meets its contract: its eight stores are one `place`.
 use borrow.Author.Needs.{needs}
 use native.Mathlib.Omega.{arith}
 use lib.ListN.{length-set}
 use Rattle.definitions.specs.Word.{bytesOf}
 use Rattle.definitions.specs.Machine.{instructionBytes}
-use Rattle.bpf.proofs.Laws.{stores-8}
+use Rattle.bpf.proofs.Buffer.{stores-8}
 use Rattle.bpf.proofs.put.Statement.{statement}
 use Rattle.bpf.proofs.put.Tie as tie
 

@@ -1,8 +1,8 @@
--- `u32_at` meets its contract: the sum over the four bytes is the number that they write. Assumes nothing.
+-- `u32_at` meets its contract: the sum over the four bytes is the number that they write.
 use borrow.Author.Needs.{needs}
 use denote.Ref.{now}
 use native.Mathlib.Omega.{arith}
-use Rattle.bpf.proofs.Laws.{number-4}
+use Rattle.bpf.proofs.Buffer.{number-4}
 use Rattle.bpf.proofs.u32_at.Statement.{statement}
 use Rattle.bpf.proofs.u32_at.Tie as tie
 

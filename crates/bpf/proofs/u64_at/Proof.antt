@@ -1,8 +1,8 @@
--- `u64_at` meets its contract: eight bytes are two numbers of four. Assumes nothing.
+-- `u64_at` meets its contract: eight bytes are two numbers of four.
 use borrow.Author.Needs.{needs}
 use denote.Ref.{now}
 use native.Mathlib.Omega.{arith}
-use Rattle.bpf.proofs.Laws.{number-8}
+use Rattle.bpf.proofs.Buffer.{number-8}
 use Rattle.bpf.proofs.u64_at.Statement.{statement}
 use Rattle.bpf.proofs.u64_at.Tie as tie
 

@@ -1,8 +1,8 @@
--- `condition_length` meets its contract: the count is the same at every distance. Assumes nothing.
+-- `condition_length` meets its contract: the count is the same at every distance.
 use borrow.Author.Needs.{needs}
 use mathlib.Core.Path.{sym, _∙_}
 use native.Mathlib.Omega.{arith}
-use Rattle.condition.proofs.Laws.{condition-long}
+use Rattle.condition.proofs.Lengths.{condition-long}
 use Rattle.condition.proofs.condition_length.Statement.{statement}
 use Rattle.condition.proofs.condition_length.Tie as tie
 

@@ -1,4 +1,4 @@
--- `high_length` meets its contract, operator by operator. Assumes nothing.
+-- `high_length` meets its contract, operator by operator.
 use borrow.Author.Needs.{needs}
 use mathlib.Core.Path.{refl}
 use native.Mathlib.Omega.{arith}

@@ -1,4 +1,4 @@
--- `low_length` meets its contract, operator by operator. Assumes nothing.
+-- `low_length` meets its contract, operator by operator.
 use borrow.Author.Needs.{needs}
 use mathlib.Core.Path.{refl}
 use native.Mathlib.Omega.{arith}

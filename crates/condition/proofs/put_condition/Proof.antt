@@ -1,9 +1,9 @@
 -- `put_condition` meets its contract: a dword's instructions are its low part, a qword's its high part and the low part behind it.
--- Assumes nothing.
+--
 use borrow.Author.Needs.{needs}
 use native.Mathlib.Omega.{arith}
-use Rattle.bpf.proofs.Laws.{put-both}
-use Rattle.condition.proofs.Laws.{dword-is, qword-is, condition-long, low-long, low-fits}
+use Rattle.bpf.proofs.Buffer.{put-both}
+use Rattle.condition.proofs.Lengths.{dword-is, qword-is, condition-long, low-long, low-fits}
 use Rattle.condition.proofs.put_condition.Statement.{statement}
 use Rattle.condition.proofs.put_condition.Tie as tie
 

@@ -1,4 +1,4 @@
--- `put_high` meets its contract, operator by operator. Assumes nothing.
+-- `put_high` meets its contract, operator by operator.
 use borrow.Author.Needs.{needs}
 use native.Mathlib.Omega.{arith}
 use Rattle.definitions.specs.Emitted.{highPart, highTests}

@@ -1,4 +1,4 @@
--- `put_low` meets its contract, operator by operator. Assumes nothing.
+-- `put_low` meets its contract, operator by operator.
 use borrow.Author.Needs.{needs}
 use native.Mathlib.Omega.{arith}
 use Rattle.definitions.specs.Emitted.{lowPart, lowTests}

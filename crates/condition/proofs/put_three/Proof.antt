@@ -1,7 +1,7 @@
--- `put_three` meets its contract: what it has put is the three instructions. Assumes nothing.
+-- `put_three` meets its contract: what it has put is the three instructions.
 use borrow.Author.Needs.{needs}
 use native.Mathlib.Omega.{arith}
-use Rattle.bpf.proofs.Laws.{put-3, put-at}
+use Rattle.bpf.proofs.Buffer.{put-3, put-at}
 use Rattle.condition.proofs.put_three.Statement.{statement}
 use Rattle.condition.proofs.put_three.Tie as tie
 

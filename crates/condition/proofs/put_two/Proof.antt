@@ -1,7 +1,7 @@
--- `put_two` meets its contract: what it has put is the two instructions. Assumes nothing.
+-- `put_two` meets its contract: what it has put is the two instructions.
 use borrow.Author.Needs.{needs}
 use native.Mathlib.Omega.{arith}
-use Rattle.bpf.proofs.Laws.{put-2, put-at}
+use Rattle.bpf.proofs.Buffer.{put-2, put-at}
 use Rattle.condition.proofs.put_two.Statement.{statement}
 use Rattle.condition.proofs.put_two.Tie as tie
 

@@ -8,7 +8,7 @@ use denote.Ref.{now}
 use Rattle.definitions.specs.Machine.{callOf}
 use Rattle.definitions.specs.RuleSet.{allHold}
 use Rattle.set_view.specs.Parts.{conditionsHere}
-use Rattle.decision.proofs.Laws.{all-stop, all-turn, all-end}
+use Rattle.decision.proofs.Meanings.{all-stop, all-turn, all-end}
 use Rattle.decision.proofs.all_hold.Statement.{statement}
 use Rattle.decision.proofs.all_hold.Tie as tie
 

@@ -6,7 +6,7 @@ use Rattle.definitions.specs.Machine.{callOf}
 use Rattle.definitions.specs.RuleSet.{anyHolds}
 use Rattle.set_view.specs.Parts.{rulePast, rulesHere, rulesPast}
 use Rattle.set_view.proofs.Walk.{behind-more, rule-inside}
-use Rattle.decision.proofs.Laws.{any-stop, any-turn, any-end}
+use Rattle.decision.proofs.Meanings.{any-stop, any-turn, any-end}
 use Rattle.decision.proofs.any_holds.Statement.{statement}
 use Rattle.decision.proofs.any_holds.Tie as tie
 

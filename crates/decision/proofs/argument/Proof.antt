@@ -1,6 +1,6 @@
 -- `argument` meets its contract: one of six, or none.
 use denote.Ref.{now}
-use Rattle.decision.proofs.Laws.{argument-at, argument-none}
+use Rattle.decision.proofs.Meanings.{argument-at, argument-none}
 use borrow.Author.Needs.{needs}
 use Rattle.decision.proofs.argument.Statement.{statement}
 use Rattle.decision.proofs.argument.Tie as tie

@@ -3,7 +3,7 @@ use mathlib.Core.Path.{sym, _∙_, ap}
 use borrow.Author.Tests.{ne-eqb}
 use denote.Ref.{now}
 use Rattle.definitions.specs.Outcome.{decided, decidedOf}
-use Rattle.decision.proofs.Laws.{decided-refused, decides}
+use Rattle.decision.proofs.Meanings.{decided-refused, decides}
 use borrow.Author.Needs.{needs}
 use Rattle.decision.proofs.decide.Statement.{statement}
 use Rattle.decision.proofs.decide.Tie as tie

@@ -1,4 +1,4 @@
--- `in_second_table` meets its contract: the definition's two tests, made in the code. Assumes nothing.
+-- `in_second_table` meets its contract: the definition's two tests, made in the code.
 use borrow.Author.Tests.{eq-eqb, ne-eqb}
 use Rattle.definitions.specs.RuleSet.{inSecondTable}
 use Rattle.decision.proofs.in_second_table.Statement.{statement}

@@ -8,7 +8,7 @@ use Rattle.definitions.specs.Machine.{callOf}
 use Rattle.definitions.specs.RuleSet as defined
 use Rattle.set_view.specs.Parts.{entriesHere, entriesPast, entryPast}
 use Rattle.set_view.proofs.Walk.{behind-more, entry-past}
-use Rattle.decision.proofs.Laws.{entry-fits, listed-stop, listed-turn, listed-end}
+use Rattle.decision.proofs.Meanings.{entry-fits, listed-stop, listed-turn, listed-end}
 use Rattle.decision.proofs.listed.Statement.{statement}
 use Rattle.decision.proofs.listed.Tie as tie
 

@@ -1,6 +1,6 @@
 -- `matches` meets its contract: without rules always, else by the rules.
 use mathlib.Core.Path.{sym, _∙_}
-use Rattle.decision.proofs.Laws.{matches-none, matches-some}
+use Rattle.decision.proofs.Meanings.{matches-none, matches-some}
 use borrow.Author.Needs.{needs}
 use Rattle.decision.proofs.matches.Statement.{statement}
 use Rattle.decision.proofs.matches.Tie as tie

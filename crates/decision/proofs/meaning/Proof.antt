@@ -2,7 +2,7 @@
 use mathlib.Core.Path.{sym, _∙_}
 use denote.Ref.{now}
 use Rattle.definitions.specs.Machine.{callOf}
-use Rattle.decision.proofs.Laws.{meaning-other, meaning-killed, meaning-own}
+use Rattle.decision.proofs.Meanings.{meaning-other, meaning-killed, meaning-own}
 use borrow.Author.Needs.{needs}
 use Rattle.decision.proofs.meaning.Statement.{statement}
 use Rattle.decision.proofs.meaning.Tie as tie

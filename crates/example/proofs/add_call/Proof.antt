@@ -1,7 +1,7 @@
 -- `add_call` meets its contract: after a refusal there is nothing to show, and else it is the writers' own.
 use mathlib.Core.Path.{refl}
 use Rattle.definitions.specs.Parts.{withEntry}
-use Rattle.example.proofs.Laws.{refused}
+use Rattle.example.proofs.Calls.{refused}
 use borrow.Author.Needs.{needs}
 use Rattle.example.proofs.add_call.Statement.{statement}
 use Rattle.example.proofs.add_call.Tie as tie

@@ -1,5 +1,5 @@
 -- `add_rule` meets its contract: after a refusal there is nothing to show, and else it is one part added behind the other.
-use Rattle.example.proofs.Laws.{refused, rule-added}
+use Rattle.example.proofs.Calls.{refused, rule-added}
 use borrow.Author.Needs.{needs}
 use Rattle.example.proofs.add_rule.Statement.{statement}
 use Rattle.example.proofs.add_rule.Tie as tie

@@ -1,7 +1,7 @@
 -- `as_stored` meets its contract: the two comparisons are those of its record.
 use mathlib.Core.Path.{_∙_}
 use borrow.Author.Tests.{not-false}
-use Rattle.example.proofs.Laws.{never}
+use Rattle.example.proofs.Calls.{never}
 use borrow.Author.Needs.{needs}
 use Rattle.example.proofs.as_stored.Statement.{statement}
 use Rattle.example.proofs.as_stored.Tie as tie

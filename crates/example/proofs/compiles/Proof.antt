@@ -1,7 +1,7 @@
 -- `compiles` meets its contract: the compiler's says that its filter is the emitted one, and the comparison that it is the stored one.
 use native.Mathlib.Omega.{arith}
 use lib.ListN.{length-take}
-use Rattle.example.proofs.Laws.{never, compiled-room, compiled-stored}
+use Rattle.example.proofs.Calls.{never, compiled-room, compiled-stored}
 use borrow.Author.Needs.{needs}
 use Rattle.example.proofs.compiles.Statement.{statement}
 use Rattle.example.proofs.compiles.Tie as tie

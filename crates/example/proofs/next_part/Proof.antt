@@ -1,5 +1,5 @@
 -- `next_part` meets its contract: whichever part is next, its reader gives it.
-use Rattle.example.proofs.Laws.{condition-walked, rule-walked, entry-walked}
+use Rattle.example.proofs.Calls.{condition-walked, rule-walked, entry-walked}
 use borrow.Author.Needs.{needs}
 use Rattle.example.proofs.next_part.Statement.{statement}
 use Rattle.example.proofs.next_part.Tie as tie

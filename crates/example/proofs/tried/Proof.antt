@@ -2,7 +2,7 @@
 use native.Mathlib.Omega.{arith}
 use lib.ListN.{length-take}
 use Rattle.example.specs.Worked.{worked}
-use Rattle.example.proofs.Laws.{never}
+use Rattle.example.proofs.Calls.{never}
 use borrow.Author.Needs.{needs}
 use Rattle.example.proofs.tried.Statement.{statement}
 use Rattle.example.proofs.tried.Tie as tie

@@ -8,7 +8,7 @@ use lib.ListN.{length}
 use Rattle.definitions.specs.RuleSet.{RuleSet}
 use Rattle.definitions.specs.Compiled.{FormOf}
 use Rattle.example.specs.Worked.{Ahead}
-use Rattle.example.proofs.Laws.{head-ahead, all-walked}
+use Rattle.example.proofs.Calls.{head-ahead, all-walked}
 use Rattle.example.proofs.walk.Statement.{statement}
 use Rattle.example.proofs.walk.Tie as tie
 

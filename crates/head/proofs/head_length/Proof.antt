@@ -1,9 +1,9 @@
--- `head_length` meets its contract: one case after the other. Assumes nothing.
+-- `head_length` meets its contract: one case after the other.
 use mathlib.Core.Path.{sym, _∙_}
 use native.Mathlib.Omega.{arith}
 use borrow.Author.Needs.{needs}
 use Rattle.set_view.specs.Names.{guardsBy, namedArchitecture}
-use Rattle.head.proofs.Laws.{head-guarded, head-none, head-some}
+use Rattle.head.proofs.Heads.{head-guarded, head-none, head-some}
 use Rattle.head.proofs.head_length.Statement.{statement}
 use Rattle.head.proofs.head_length.Tie as tie
 

@@ -1,4 +1,4 @@
--- `put_head` meets its contract: what stands in front of the numbers, one case after the other. Assumes nothing.
+-- `put_head` meets its contract: what stands in front of the numbers, one case after the other.
 use borrow.Author.Needs.{needs}
 use mathlib.Core.Path.{refl, ap, sym, _∙_}
 use mathlib.Core.List.{List}
@@ -6,7 +6,7 @@ use native.Mathlib.Omega.{arith}
 use lib.ListN.{length}
 use Rattle.definitions.specs.declared.Instruction.{Instruction}
 use Rattle.set_view.specs.Names.{guardsBy, namedArchitecture}
-use Rattle.head.proofs.Laws.{head-guarded, head-none, head-some, head-least, put-load, put-guarded}
+use Rattle.head.proofs.Heads.{head-guarded, head-none, head-some, head-least, put-load, put-guarded}
 use Rattle.head.proofs.put_head.Statement.{statement}
 use Rattle.head.proofs.put_head.Tie as tie
 

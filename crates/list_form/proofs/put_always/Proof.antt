@@ -1,8 +1,8 @@
--- `put_always` meets its contract: what it has put is the three instructions. Assumes nothing.
+-- `put_always` meets its contract: what it has put is the three instructions.
 use borrow.Author.Needs.{needs}
 use native.Mathlib.Omega.{arith}
-use Rattle.bpf.proofs.Laws.{put-3}
-use Rattle.list_form.proofs.Laws.{body-always}
+use Rattle.bpf.proofs.Buffer.{put-3}
+use Rattle.list_form.proofs.Filters.{body-always}
 use Rattle.list_form.proofs.put_always.Statement.{statement}
 use Rattle.list_form.proofs.put_always.Tie as tie
 

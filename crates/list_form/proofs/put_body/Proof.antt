@@ -1,4 +1,4 @@
--- `put_body` meets its contract: without rules the number always matches, else its rules are written. Assumes nothing.
+-- `put_body` meets its contract: without rules the number always matches, else its rules are written.
 use borrow.Author.Needs.{needs}
 use mathlib.Core.Path.{ap, sym, _∙_}
 use native.Mathlib.Omega.{arith}
@@ -6,7 +6,7 @@ use lib.ListN.{length}
 use denote.Ref.{now}
 use Rattle.set_view.proofs.Walk.{behind-none}
 use Rattle.set_view.specs.Parts.{rulePast}
-use Rattle.list_form.proofs.Laws.{body-always, body-none, body-some}
+use Rattle.list_form.proofs.Filters.{body-always, body-none, body-some}
 use Rattle.list_form.proofs.put_body.Statement.{statement}
 use Rattle.list_form.proofs.put_body.Tie as tie
 

@@ -1,13 +1,13 @@
 -- `put_entries` meets its contract. The loop's invariant: what is left, written here, is the whole, written there; and both are read
--- from bytes that end at one place. Assumes nothing.
+-- from bytes that end at one place.
 use mathlib.Core.Path.{_≡_, refl, _∙_}
 use native.Mathlib.Omega.{arith}
 use denote.Ref.{now}
 use Rattle.definitions.specs.Emitted.{entriesCode}
 use Rattle.bpf.specs.Place.{Writing}
-use Rattle.bpf.proofs.Laws.{write-begin, write-on, write-end}
+use Rattle.bpf.proofs.Buffer.{write-begin, write-on, write-end}
 use Rattle.set_view.specs.Parts.{entriesHere, entriesPast}
-use Rattle.list_form.proofs.Laws.{entries-none}
+use Rattle.list_form.proofs.Filters.{entries-none}
 use Rattle.list_form.proofs.put_entries.Statement.{statement}
 use Rattle.list_form.proofs.put_entries.Tie as tie
 

@@ -1,4 +1,4 @@
--- `put_entry` meets its contract: the test of the number, the rules, and the return behind them are the entry. Assumes nothing.
+-- `put_entry` meets its contract: the test of the number, the rules, and the return behind them are the entry.
 use borrow.Author.Needs.{needs}
 use Prim.Native.Nat.{_+_}
 use native.Mathlib.Omega.{arith}
@@ -7,7 +7,7 @@ use Rattle.definitions.specs.Word.{numberAt}
 use Rattle.definitions.specs.Emitted.{bodyCode}
 use Rattle.set_view.specs.Parts.{rulesHere}
 use Rattle.set_view.proofs.Walk.{entry-further, entry-past}
-use Rattle.list_form.proofs.Laws.{put-around, entry-is, entry-length}
+use Rattle.list_form.proofs.Filters.{put-around, entry-is, entry-length}
 use Rattle.list_form.proofs.put_entry.Statement.{statement}
 use Rattle.list_form.proofs.put_entry.Tie as tie
 

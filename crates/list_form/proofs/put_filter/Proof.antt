@@ -1,8 +1,8 @@
--- `put_filter` meets its contract: the head, the entries behind it, and the return for a number that none of them lists. Assumes nothing.
+-- `put_filter` meets its contract: the head, the entries behind it, and the return for a number that none of them lists.
 use borrow.Author.Needs.{needs}
 use native.Mathlib.Omega.{arith}
 use denote.Ref.{now}
-use Rattle.list_form.proofs.Laws.{headHere, codeHere, filter-is, filter-length, put-headed}
+use Rattle.list_form.proofs.Filters.{headHere, codeHere, filter-is, filter-length, put-headed}
 use Rattle.list_form.proofs.put_filter.Statement.{statement}
 use Rattle.list_form.proofs.put_filter.Tie as tie
 

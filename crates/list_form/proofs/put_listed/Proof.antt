@@ -1,10 +1,10 @@
--- `put_listed` meets its contract: the test of the number, what stands for no rules, and the return behind it are the entry. Assumes nothing.
+-- `put_listed` meets its contract: the test of the number, what stands for no rules, and the return behind it are the entry.
 use borrow.Author.Needs.{needs}
 use mathlib.Core.List.{[]}
 use native.Mathlib.Omega.{arith}
 use denote.Ref.{now}
 use Rattle.definitions.specs.Emitted.{bodyCode}
-use Rattle.list_form.proofs.Laws.{put-around, body-always, plain-code}
+use Rattle.list_form.proofs.Filters.{put-around, body-always, plain-code}
 use Rattle.list_form.proofs.put_listed.Statement.{statement}
 use Rattle.list_form.proofs.put_listed.Tie as tie
 

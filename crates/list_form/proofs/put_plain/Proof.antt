@@ -1,15 +1,15 @@
 -- `put_plain` meets its contract. The loop's invariant: what is left, written here, is the whole, written there; and both are read
--- from bytes that end at one place. Assumes nothing.
+-- from bytes that end at one place.
 use mathlib.Core.Path.{_≡_, refl, sym, _∙_}
 use Prim.Native.Nat.{_+_, _-_, _*_, _≤_}
 use native.Mathlib.Omega.{arith}
 use denote.Ref.{now}
 use Rattle.definitions.specs.Emitted.{entryCode, entriesCode}
 use Rattle.bpf.specs.Place.{Writing}
-use Rattle.bpf.proofs.Laws.{write-begin, write-turn, write-room}
+use Rattle.bpf.proofs.Buffer.{write-begin, write-turn, write-room}
 use Rattle.set_view.specs.Parts.{entriesHere, entriesPast, entryHere, entryPast}
 use Rattle.set_view.proofs.Walk.{behind-more, entries-further, entry-inside, plain-is, plain-passed, plain-past}
-use Rattle.list_form.proofs.Laws.{entries-more, plain-length}
+use Rattle.list_form.proofs.Filters.{entries-more, plain-length}
 use Rattle.list_form.proofs.put_plain.Statement.{statement}
 use Rattle.list_form.proofs.put_plain.Tie as tie
 

@@ -1,13 +1,13 @@
--- `put_turn` meets its contract: the entries without rules that stand there, else one entry. Assumes nothing.
+-- `put_turn` meets its contract: the entries without rules that stand there, else one entry.
 use borrow.Author.Needs.{needs}
 use mathlib.Core.Path.{_≡_, refl, sym, _∙_}
 use native.Mathlib.Omega.{arith}
 use denote.Ref.{now}
 use Rattle.definitions.specs.Emitted.{entryCode}
-use Rattle.bpf.proofs.Laws.{write-begin, write-turn, write-room}
+use Rattle.bpf.proofs.Buffer.{write-begin, write-turn, write-room}
 use Rattle.set_view.specs.Parts.{entryHere, entryPast}
 use Rattle.set_view.proofs.Walk.{behind-more, entry-inside}
-use Rattle.list_form.proofs.Laws.{entries-more}
+use Rattle.list_form.proofs.Filters.{entries-more}
 use Rattle.list_form.proofs.put_turn.Statement.{statement}
 use Rattle.list_form.proofs.put_turn.Tie as tie
 

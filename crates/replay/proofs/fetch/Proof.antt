@@ -1,8 +1,8 @@
--- `fetch` meets its contract: it reads only where there is room. Assumes nothing.
+-- `fetch` meets its contract: it reads only where there is room.
 use native.Mathlib.Omega.{arith}
 use borrow.Author.Needs.{needs}
 use lib.ListN.{length-take}
-use Rattle.replay.proofs.Laws.{never}
+use Rattle.replay.proofs.Patterns.{never}
 use Rattle.replay.proofs.fetch.Statement.{statement}
 use Rattle.replay.proofs.fetch.Tie as tie
 

@@ -1,10 +1,10 @@
--- `fill` meets its contract: the loop has filled each place that it passed. Assumes nothing.
+-- `fill` meets its contract: the loop has filled each place that it passed.
 use Prim.Native.Nat.{_≤_, _<_, _-_}
 use mathlib.Core.Path.{_≡_}
 use borrow.Author.Needs.{needs}
 use lib.ListN.{length, length-set}
 use native.Mathlib.Omega.{arith}
-use Rattle.replay.proofs.Laws.{Filled, filled-more}
+use Rattle.replay.proofs.Patterns.{Filled, filled-more}
 use Rattle.replay.proofs.fill.Statement.{statement}
 use Rattle.replay.proofs.fill.Tie as tie
 

@@ -1,11 +1,11 @@
 -- `holds` meets its contract: the compiler's contract makes the answer the definition's, and the two comparisons give the bytes.
--- Assumes nothing.
+--
 use native.Mathlib.Omega.{arith}
 use borrow.Author.Needs.{needs}
 use borrow.Author.Tests.{not-false}
 use denote.Ref.{now}
 use lib.ListN.{length-take}
-use Rattle.replay.proofs.Laws.{never, answered}
+use Rattle.replay.proofs.Patterns.{never, answered}
 use Rattle.replay.proofs.holds.Statement.{statement}
 use Rattle.replay.proofs.holds.Tie as tie
 

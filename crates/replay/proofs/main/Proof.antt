@@ -1,4 +1,4 @@
--- `main` is safe and ends: no count is above the number of turns. Assumes nothing.
+-- `main` is safe and ends: no count is above the number of turns.
 use Prim.Native.Nat.{_≤_, _-_}
 use native.Mathlib.Omega.{arith}
 use borrow.Author.Needs.{needs}

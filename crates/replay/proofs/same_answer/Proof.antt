@@ -1,6 +1,6 @@
 -- `same_answer` meets its contract: one number after the other.
 use borrow.Author.Tests.{eqb-true}
-use Rattle.replay.proofs.Laws.{never, answers-same}
+use Rattle.replay.proofs.Patterns.{never, answers-same}
 use Rattle.replay.proofs.same_answer.Statement.{statement}
 use Rattle.replay.proofs.same_answer.Tie as tie
 

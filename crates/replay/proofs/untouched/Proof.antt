@@ -1,4 +1,4 @@
--- `untouched` meets its contract: each byte that the loop passed is the pattern's. Assumes nothing.
+-- `untouched` meets its contract: each byte that the loop passed is the pattern's.
 use Prim.Native.Nat.{ℕ, _≤_, _<_, _-_}
 use mathlib.Core.Path.{_≡_, _∙_}
 use borrow.Author.Needs.{needs}
@@ -6,7 +6,7 @@ use lib.ListN.{length, getD}
 use native.Mathlib.Omega.{arith}
 use borrow.Author.Count.{below-more}
 use Rattle.replay.specs.Pattern.{patternAt}
-use Rattle.replay.proofs.Laws.{never}
+use Rattle.replay.proofs.Patterns.{never}
 use Rattle.replay.proofs.untouched.Statement.{statement}
 use Rattle.replay.proofs.untouched.Tie as tie
 

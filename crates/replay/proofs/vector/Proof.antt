@@ -1,4 +1,4 @@
--- `vector` is safe: what was fetched lies within its space. Assumes nothing.
+-- `vector` is safe: what was fetched lies within its space.
 use native.Mathlib.Omega.{arith}
 use borrow.Author.Needs.{needs}
 use borrow.Author.Tests.{not-false}

@@ -1,4 +1,4 @@
--- `write_name` is safe: a name lies within the space that holds it. Assumes nothing.
+-- `write_name` is safe: a name lies within the space that holds it.
 use native.Mathlib.Omega.{arith}
 use borrow.Author.Needs.{needs}
 use lib.ListN.{length-take}

@@ -1,4 +1,4 @@
--- `is_far` meets its contract: its test is the definition's. The one place where the code has the threshold. Assumes nothing.
+-- `is_far` meets its contract: its test is the definition's. The one place where the code has the threshold.
 use mathlib.Core.Path.{refl}
 use Rattle.rule.proofs.is_far.Statement.{statement}
 use Rattle.rule.proofs.is_far.Tie as tie

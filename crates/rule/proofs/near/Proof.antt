@@ -1,4 +1,4 @@
--- `near` meets its contract: the definition's test is made by `is_far`. Assumes nothing.
+-- `near` meets its contract: the definition's test is made by `is_far`.
 use borrow.Author.Needs.{needs}
 use Rattle.definitions.specs.Emitted.{near}
 use Rattle.rule.proofs.near.Statement.{statement}

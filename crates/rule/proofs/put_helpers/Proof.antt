@@ -1,10 +1,10 @@
--- `put_helpers` meets its contract: there are three helpers, or none and nothing is written. Assumes nothing.
+-- `put_helpers` meets its contract: there are three helpers, or none and nothing is written.
 use borrow.Author.Needs.{needs}
 use mathlib.Core.Path.{ap, sym, _∙_}
 use native.Mathlib.Omega.{arith}
 use lib.ListN.{length}
-use Rattle.bpf.proofs.Laws.{put-3, put-at}
-use Rattle.rule.proofs.Laws.{put-none, helpers-none, helpers-three}
+use Rattle.bpf.proofs.Buffer.{put-3, put-at}
+use Rattle.rule.proofs.Rules.{put-none, helpers-none, helpers-three}
 use Rattle.rule.proofs.put_helpers.Statement.{statement}
 use Rattle.rule.proofs.put_helpers.Tie as tie
 

@@ -3,9 +3,9 @@ use borrow.Author.Needs.{needs}
 use native.Mathlib.Omega.{arith}
 use mathlib.Core.Path.{_∙_}
 use denote.Ref.{now}
-use Rattle.bpf.proofs.Laws.{before-is}
+use Rattle.bpf.proofs.Buffer.{before-is}
 use Rattle.set_view.specs.Parts.{conditionsHere}
-use Rattle.rule.proofs.Laws.{rule-is-long, rule-put}
+use Rattle.rule.proofs.Rules.{rule-is-long, rule-put}
 use Rattle.rule.proofs.put_rule.Statement.{statement}
 use Rattle.rule.proofs.put_rule.Tie as tie
 

@@ -7,9 +7,9 @@ use borrow.Author.Needs.{needs}
 use lib.ListN.{length}
 use denote.Ref.{now}
 use Rattle.definitions.specs.Emitted.{conditionsCode, distance}
-use Rattle.bpf.proofs.Laws.{WritingBefore, put-where, before-begin, before-turn, before-end}
+use Rattle.bpf.proofs.Buffer.{WritingBefore, put-where, before-begin, before-turn, before-end}
 use Rattle.set_view.specs.Parts.{conditionsHere}
-use Rattle.rule.proofs.Laws.{code-more, code-none, step-room, distance-more, distance-none, body-is-long, body-put}
+use Rattle.rule.proofs.Rules.{code-more, code-none, step-room, distance-more, distance-none, body-is-long, body-put}
 use Rattle.rule.proofs.put_rule_body.Statement.{statement}
 use Rattle.rule.proofs.put_rule_body.Tie as tie
 

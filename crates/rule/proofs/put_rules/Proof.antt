@@ -4,7 +4,7 @@ use mathlib.Core.Path.{_≡_, refl, ap, sym, _∙_}
 use native.Mathlib.Omega.{arith}
 use denote.Ref.{now}
 use Rattle.bpf.specs.Place.{Writing}
-use Rattle.bpf.proofs.Laws.{write-begin, write-turn, write-room, write-end}
+use Rattle.bpf.proofs.Buffer.{write-begin, write-turn, write-room, write-end}
 use Rattle.set_view.specs.Parts.{ruleHere, rulePast, rulesHere, rulesPast}
 use Rattle.set_view.proofs.Walk.{parts-more, parts-none, behind-more, behind-none, rule-inside}
 use Rattle.rule.specs.Form.{ruleWith, rulesWith}

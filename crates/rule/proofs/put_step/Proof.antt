@@ -1,10 +1,10 @@
--- `put_step` meets its contract: the helpers, and the condition in front of them. Assumes nothing.
+-- `put_step` meets its contract: the helpers, and the condition in front of them.
 use borrow.Author.Needs.{needs}
 use native.Mathlib.Omega.{arith}
 use Rattle.definitions.specs.Emitted.{near}
-use Rattle.bpf.proofs.Laws.{put-both}
-use Rattle.condition.proofs.Laws.{condition-short}
-use Rattle.rule.proofs.Laws.{near-small, step-is, step-length, step-distance}
+use Rattle.bpf.proofs.Buffer.{put-both}
+use Rattle.condition.proofs.Lengths.{condition-short}
+use Rattle.rule.proofs.Rules.{near-small, step-is, step-length, step-distance}
 use Rattle.rule.proofs.put_step.Statement.{statement}
 use Rattle.rule.proofs.put_step.Tie as tie
 

@@ -8,7 +8,7 @@ use lib.ListN.{length}
 use denote.Ref.{now}
 use Rattle.definitions.specs.Emitted.{conditionsCode}
 use Rattle.set_view.specs.Parts.{conditionsHere}
-use Rattle.rule.proofs.Laws.{code-length, code-none, body-is-long}
+use Rattle.rule.proofs.Rules.{code-length, code-none, body-is-long}
 use Rattle.rule.proofs.rule_length.Statement.{statement}
 use Rattle.rule.proofs.rule_length.Tie as tie
 

@@ -1,10 +1,10 @@
--- `step_length` meets its contract: a condition's length is the same at every distance, and helpers are three or none. Assumes nothing.
+-- `step_length` meets its contract: a condition's length is the same at every distance, and helpers are three or none.
 use borrow.Author.Needs.{needs}
 use mathlib.Core.Path.{ap, sym, _∙_}
 use native.Mathlib.Omega.{arith}
 use lib.ListN.{length}
 use Rattle.definitions.specs.Emitted.{reach, near}
-use Rattle.rule.proofs.Laws.{helpers-none, helpers-three, near-far, near-same, step-distance, step-length}
+use Rattle.rule.proofs.Rules.{helpers-none, helpers-three, near-far, near-same, step-distance, step-length}
 use borrow.Author.Tests.{ltb-false}
 use Rattle.rule.proofs.step_length.Statement.{statement}
 use Rattle.rule.proofs.step_length.Tie as tie

@@ -1,5 +1,5 @@
 -- `bodies_length` meets its contract. The loop's invariant: what is counted, and what is left, is all; and no entry has more
--- instructions here than bytes. Assumes nothing.
+-- instructions here than bytes.
 use mathlib.Core.Path.{_≡_, refl, ap}
 use mathlib.Core.List.{List}
 use Prim.Native.Nat.{_+_, _≤_}
@@ -11,7 +11,7 @@ use Rattle.definitions.specs.Word.{numberAt}
 use Rattle.set_view.specs.Parts.{entriesPast, entryPast}
 use Rattle.set_view.proofs.Walk.{behind-more, entries-further, entry-inside, entry-past}
 use Rattle.search_bodies.specs.Here.{bodiesHere}
-use Rattle.search_bodies.proofs.Laws.{bodies-last, entry-room, bodies-long}
+use Rattle.search_bodies.proofs.Bodies.{bodies-last, entry-room, bodies-long}
 use Rattle.search_bodies.proofs.bodies_length.Statement.{statement}
 use Rattle.search_bodies.proofs.bodies_length.Tie as tie
 

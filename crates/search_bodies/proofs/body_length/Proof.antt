@@ -5,7 +5,7 @@ use borrow.Author.Needs.{needs}
 use denote.Ref.{now}
 use Rattle.set_view.specs.Parts.{rulePast}
 use Rattle.set_view.proofs.Walk.{behind-none}
-use Rattle.search_bodies.proofs.Laws.{entry-body-none, entry-body-long}
+use Rattle.search_bodies.proofs.Bodies.{entry-body-none, entry-body-long}
 use Rattle.search_bodies.proofs.body_length.Statement.{statement}
 use Rattle.search_bodies.proofs.body_length.Tie as tie
 

@@ -1,17 +1,17 @@
 -- `put_bodies` meets its contract. The loop's invariant: what is left, written here, is the whole, written there; and both are read
--- from bytes that end at one place. Assumes nothing.
+-- from bytes that end at one place.
 use mathlib.Core.Path.{_≡_, refl, sym, _∙_}
 use Prim.Native.Nat.{_+_}
 use native.Mathlib.Omega.{arith}
 use denote.Ref.{now}
 use Rattle.definitions.specs.Word.{numberAt}
 use Rattle.bpf.specs.Place.{Writing}
-use Rattle.bpf.proofs.Laws.{write-begin, write-turn, write-room}
+use Rattle.bpf.proofs.Buffer.{write-begin, write-turn, write-room}
 use Rattle.search_form.specs.Search.{bodies}
 use Rattle.definitions.specs.Emitted.{entryBody}
 use Rattle.set_view.specs.Parts.{entriesHere, entriesPast, entryPast, rulesHere}
 use Rattle.set_view.proofs.Walk.{behind-more, entry-inside, entry-past}
-use Rattle.search_bodies.proofs.Laws.{entry-room, bodies-more, bodies-last, write-last}
+use Rattle.search_bodies.proofs.Bodies.{entry-room, bodies-more, bodies-last, write-last}
 use Rattle.search_bodies.proofs.put_bodies.Statement.{statement}
 use Rattle.search_bodies.proofs.put_bodies.Tie as tie
 

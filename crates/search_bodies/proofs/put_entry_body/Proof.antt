@@ -3,12 +3,12 @@ use mathlib.Core.Path.{sym}
 use native.Mathlib.Omega.{arith}
 use borrow.Author.Needs.{needs}
 use denote.Ref.{now}
-use Rattle.bpf.proofs.Laws.{put-next}
-use Rattle.rule.proofs.Laws.{put-none}
+use Rattle.bpf.proofs.Buffer.{put-next}
+use Rattle.rule.proofs.Rules.{put-none}
 use Rattle.definitions.specs.Emitted.{ruleBodies}
 use Rattle.set_view.specs.Parts.{rulePast, rulesHere}
 use Rattle.set_view.proofs.Walk.{behind-none}
-use Rattle.search_bodies.proofs.Laws.{entry-body-none, entry-body-some, entry-body-long}
+use Rattle.search_bodies.proofs.Bodies.{entry-body-none, entry-body-some, entry-body-long}
 use Rattle.search_bodies.proofs.put_entry_body.Statement.{statement}
 use Rattle.search_bodies.proofs.put_entry_body.Tie as tie
 

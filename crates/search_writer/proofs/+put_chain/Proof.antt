@@ -1,4 +1,4 @@
--- `put_chain` meets its contract. It calls itself for the runs behind the first, of which there is one less. Assumes nothing.
+-- `put_chain` meets its contract. It calls itself for the runs behind the first, of which there is one less.
 use mathlib.Core.Path.{refl}
 use Prim.Native.Nat.{_-_, ℕ, _<_}
 use native.Mathlib.Omega.{arith}

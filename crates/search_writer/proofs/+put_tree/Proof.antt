@@ -1,4 +1,4 @@
--- `put_tree` meets its contract. It calls itself for both halves, each of which has fewer runs. Assumes nothing.
+-- `put_tree` meets its contract. It calls itself for both halves, each of which has fewer runs.
 use mathlib.Core.Path.{refl, sym, _∙_}
 use mathlib.Core.Bool.{not, _&&_}
 use Prim.Native.Nat.{_-_, _/_, ℕ, _<_}
@@ -11,7 +11,7 @@ use lib.ListN.{take}
 use denote.Ref.{now}
 use Rattle.bpf.proofs.u32_at.Reads as u32-at-reads
 use Rattle.search_form.specs.Search.{atLeast, node, chain, grow}
-use Rattle.search_bodies.proofs.Laws.{entry-room}
+use Rattle.search_bodies.proofs.Bodies.{entry-room}
 use Rattle.spans.specs.Spans.{spansFrom}
 use Rattle.spans.proofs.Reading.{span-left, lowest-here}
 use Rattle.spans.proofs.is_few.Reads as is-few-reads

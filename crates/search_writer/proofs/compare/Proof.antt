@@ -1,4 +1,4 @@
--- `compare` meets its contract: both distances fit their 8 bits, since both places are near. Assumes nothing.
+-- `compare` meets its contract: both distances fit their 8 bits, since both places are near.
 use native.Mathlib.Omega.{arith}
 use borrow.Author.Needs.{needs}
 use Rattle.search_writer.proofs.Planting.{compare-makes}

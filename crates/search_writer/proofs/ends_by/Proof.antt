@@ -1,4 +1,4 @@
--- `ends_by` meets its contract. Assumes nothing.
+-- `ends_by` meets its contract.
 use mathlib.Core.Path.{sym}
 use borrow.Author.Needs.{needs}
 use Rattle.search_writer.proofs.Planting.{ends-none, ends-some}

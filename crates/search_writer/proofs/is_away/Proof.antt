@@ -1,4 +1,4 @@
--- `is_away` meets its contract: a return that is missing is out of every reach. Assumes nothing.
+-- `is_away` meets its contract: a return that is missing is out of every reach.
 use mathlib.Core.Path.{sym}
 use borrow.Author.Needs.{needs}
 use Rattle.search_writer.proofs.Planting.{away-none, away-some}

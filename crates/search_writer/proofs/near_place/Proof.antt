@@ -1,4 +1,4 @@
--- `near_place` meets its contract: the place is near, or a jump in front leads there. Assumes nothing.
+-- `near_place` meets its contract: the place is near, or a jump in front leads there.
 use native.Mathlib.Omega.{arith}
 use borrow.Author.Needs.{needs}
 use Rattle.search_form.specs.Search.{nearPlace}

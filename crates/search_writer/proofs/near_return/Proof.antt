@@ -1,4 +1,4 @@
--- `near_return` meets its contract: the last return is near, or there is a new one in front. Assumes nothing.
+-- `near_return` meets its contract: the last return is near, or there is a new one in front.
 use mathlib.Core.Path.{sym, _∙_}
 use native.Mathlib.Omega.{arith}
 use borrow.Author.Needs.{needs}

@@ -1,4 +1,4 @@
--- `open_block` meets its contract. Assumes nothing.
+-- `open_block` meets its contract.
 use mathlib.Core.Bool.{not, _&&_}
 use native.Mathlib.Omega.{arith}
 use borrow.Author.Needs.{needs}

@@ -1,4 +1,4 @@
--- `put_front` meets its contract: where there is no room for one more, nothing is said of the bytes. Assumes nothing.
+-- `put_front` meets its contract: where there is no room for one more, nothing is said of the bytes.
 use native.Mathlib.Omega.{arith}
 use borrow.Author.Needs.{needs}
 use Rattle.search_writer.proofs.Planting.{written-front, written-full}

@@ -1,4 +1,4 @@
--- `put_interval` meets its contract. Assumes nothing.
+-- `put_interval` meets its contract.
 use mathlib.Core.Path.{refl}
 use native.Mathlib.Omega.{arith}
 use borrow.Author.Needs.{needs}

@@ -1,4 +1,4 @@
--- `put_leaf` meets its contract. Assumes nothing.
+-- `put_leaf` meets its contract.
 use native.Mathlib.Omega.{arith}
 use borrow.Author.Needs.{needs}
 use Rattle.search_writer.proofs.Planting.{match-makes, rules-makes}

@@ -1,4 +1,4 @@
--- `put_mismatch` meets its contract. Assumes nothing.
+-- `put_mismatch` meets its contract.
 use native.Mathlib.Omega.{arith}
 use borrow.Author.Needs.{needs}
 use Rattle.search_writer.proofs.Planting.{mismatch-makes}

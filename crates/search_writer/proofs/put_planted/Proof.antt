@@ -1,10 +1,10 @@
--- `put_planted` meets its contract: the tree of all runs, with the code of the rules as its ground. Assumes nothing.
+-- `put_planted` meets its contract: the tree of all runs, with the code of the rules as its ground.
 use mathlib.Core.Path.{sym}
 use native.Mathlib.Omega.{arith}
 use borrow.Author.Needs.{needs}
 use denote.Ref.{now}
 use Rattle.definitions.specs.Word.{numberAt}
-use Rattle.search_bodies.proofs.Laws.{bodies-there, entries-eight}
+use Rattle.search_bodies.proofs.Bodies.{bodies-there, entries-eight}
 use Rattle.spans.proofs.Reading.{spans-there}
 use Rattle.search_writer.proofs.Planted.{planted-bodies, planted-there}
 use Rattle.search_writer.proofs.put_planted.Statement.{statement}

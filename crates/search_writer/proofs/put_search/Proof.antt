@@ -1,4 +1,4 @@
--- `put_search` meets its contract: the head and what stands behind it are the filter. Assumes nothing.
+-- `put_search` meets its contract: the head and what stands behind it are the filter.
 use native.Mathlib.Omega.{arith}
 use borrow.Author.Needs.{needs}
 use denote.Ref.{now}

@@ -1,4 +1,4 @@
--- `put_searched` meets its contract: the code of the rules is put where it is to end, and the tree in front of it. Assumes nothing.
+-- `put_searched` meets its contract: the code of the rules is put where it is to end, and the tree in front of it.
 use native.Mathlib.Omega.{arith}
 use borrow.Author.Needs.{needs}
 use denote.Ref.{now}

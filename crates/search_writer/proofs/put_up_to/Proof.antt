@@ -1,4 +1,4 @@
--- `put_up_to` meets its contract. Assumes nothing.
+-- `put_up_to` meets its contract.
 use mathlib.Core.Path.{refl, sym, _∙_}
 use native.Mathlib.Omega.{arith}
 use borrow.Author.Needs.{needs}

@@ -1,11 +1,11 @@
--- `search_length` meets its contract: what is written into no room at all is counted, behind the head. Assumes nothing.
+-- `search_length` meets its contract: what is written into no room at all is counted, behind the head.
 use mathlib.Core.List.{[]}
 use native.Mathlib.Omega.{arith}
 use borrow.Author.Needs.{needs}
 use denote.Ref.{now}
 use Rattle.definitions.specs.Word.{numberAt}
 use Rattle.search_bodies.specs.Here.{bodiesHere}
-use Rattle.search_bodies.proofs.Laws.{bodies-there}
+use Rattle.search_bodies.proofs.Bodies.{bodies-there}
 use Rattle.search_writer.proofs.Planted.{search-long, no-room}
 use Rattle.search_writer.proofs.search_length.Statement.{statement}
 use Rattle.search_writer.proofs.search_length.Tie as tie

@@ -1,4 +1,4 @@
--- `architecture_known` meets its contract: one test after the other. Assumes nothing.
+-- `architecture_known` meets its contract: one test after the other.
 use borrow.Author.Needs.{needs}
 use borrow.Author.Tests.{eq-eqb, ne-eqb}
 use Rattle.theorems.proofs.Names.{architecture-there}

@@ -1,4 +1,4 @@
--- `architecture_word` meets its contract: the definition's test, made in the code. Assumes nothing.
+-- `architecture_word` meets its contract: the definition's test, made in the code.
 use borrow.Author.Needs.{needs}
 use borrow.Author.Tests.{eq-eqb, ne-eqb}
 use Rattle.definitions.specs.RuleSet.{architectureWord}

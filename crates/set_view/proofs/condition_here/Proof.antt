@@ -1,4 +1,4 @@
--- `condition_here` meets its contract, field by field. Assumes nothing.
+-- `condition_here` meets its contract, field by field.
 use borrow.Author.Needs.{needs}
 use Rattle.set_view.specs.Parts.{conditionHere}
 use Rattle.set_view.proofs.condition_here.Statement.{statement}

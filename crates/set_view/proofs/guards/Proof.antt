@@ -1,4 +1,4 @@
--- `guards` meets its contract: of the three architectures one has a second table. Assumes nothing.
+-- `guards` meets its contract: of the three architectures one has a second table.
 use mathlib.Core.Path.{_≡_, refl}
 use mathlib.Core.Bool.{Bool, true, false, cond}
 use Prim.Native.Nat.{_-_}

@@ -1,4 +1,4 @@
--- `named_operator` meets its contract: the definition's tests, made one after the other. Assumes nothing.
+-- `named_operator` meets its contract: the definition's tests, made one after the other.
 use borrow.Author.Tests.{eq-eqb, ne-eqb}
 use Rattle.set_view.specs.Names.{namedOperator}
 use Rattle.set_view.proofs.named_operator.Statement.{statement}

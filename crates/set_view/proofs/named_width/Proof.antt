@@ -1,4 +1,4 @@
--- `named_width` meets its contract: the definition's test, made in the code. Assumes nothing.
+-- `named_width` meets its contract: the definition's test, made in the code.
 use borrow.Author.Tests.{eq-eqb, ne-eqb}
 use Rattle.set_view.specs.Names.{namedWidth}
 use Rattle.set_view.proofs.named_width.Statement.{statement}

@@ -1,4 +1,4 @@
--- `plain_here` meets its contract: the definition's tests, made one after the other. Assumes nothing.
+-- `plain_here` meets its contract: the definition's tests, made one after the other.
 use borrow.Author.Tests.{eq-eqb, ne-eqb}
 use native.Mathlib.Omega.{arith}
 use denote.Ref.{now}

@@ -1,4 +1,4 @@
--- `unflagged` meets its contract: the definition's test, made in the code. Assumes nothing.
+-- `unflagged` meets its contract: the definition's test, made in the code.
 use native.Mathlib.Omega.{arith}
 use borrow.Author.Tests.{le-leb, lt-leb}
 use Rattle.definitions.specs.Format.{nativeOf, unflagged}

@@ -1,4 +1,4 @@
--- `all_single` meets its contract. The loop's invariant: the runs are all single if those from here on are. Assumes nothing.
+-- `all_single` meets its contract. The loop's invariant: the runs are all single if those from here on are.
 use mathlib.Core.Path.{_≡_, refl, sym}
 use Prim.Native.Nat.{_≤_}
 use native.Mathlib.Omega.{arith}

@@ -1,4 +1,4 @@
--- `count_runs` meets its contract. The loop's invariant: the runs counted and those from here on are all. Assumes nothing.
+-- `count_runs` meets its contract. The loop's invariant: the runs counted and those from here on are all.
 use mathlib.Core.Path.{_≡_, ap}
 use mathlib.Core.List.{List}
 use Prim.Native.Nat.{_+_, _≤_}
@@ -6,7 +6,7 @@ use native.Mathlib.Omega.{arith}
 use lib.ListN.{length}
 use denote.Ref.{now}
 use Rattle.search_form.specs.Search.{Span}
-use Rattle.search_bodies.proofs.Laws.{entries-eight}
+use Rattle.search_bodies.proofs.Bodies.{entries-eight}
 use Rattle.spans.specs.Spans.{spansFrom, Stands}
 use Rattle.spans.proofs.Reading.{spans-none}
 use Rattle.spans.proofs.count_runs.Statement.{statement}

@@ -1,9 +1,9 @@
--- `follows` meets its contract: both sides of the test are numbers of 64 bits, so that no number follows the highest. Assumes nothing.
+-- `follows` meets its contract: both sides of the test are numbers of 64 bits, so that no number follows the highest.
 use mathlib.Core.Path.{refl, sym, _∙_}
 use native.Mathlib.Omega.{arith}
 use borrow.Author.Needs.{needs}
 use denote.Ref.{now}
-use Rattle.search_bodies.proofs.Laws.{entry-room}
+use Rattle.search_bodies.proofs.Bodies.{entry-room}
 use Rattle.set_view.proofs.Walk.{plain-is}
 use Rattle.spans.proofs.follows.Statement.{statement}
 use Rattle.spans.proofs.follows.Tie as tie

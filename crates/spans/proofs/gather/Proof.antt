@@ -1,5 +1,5 @@
 -- `gather` meets its contract. The loop's invariant: the numbers so far, with those that follow them, are the run; and nothing but
--- numbers without rules was passed. Assumes nothing.
+-- numbers without rules was passed.
 use mathlib.Core.Path.{_≡_, refl, sym, _∙_}
 use Prim.Native.Nat.{_≤_}
 use native.Mathlib.Omega.{arith}

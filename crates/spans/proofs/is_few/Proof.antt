@@ -1,4 +1,4 @@
--- `is_few` meets its contract: one run, or as many single numbers as a chain may have. Assumes nothing.
+-- `is_few` meets its contract: one run, or as many single numbers as a chain may have.
 use borrow.Author.Needs.{needs}
 use borrow.Author.Tests.{le-leb, lt-leb}
 use lib.Seq.{length-take-le}

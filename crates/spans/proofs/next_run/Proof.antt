@@ -1,9 +1,9 @@
 -- `next_run` meets its contract: a number with rules is a run by itself, and one without is gathered with those that follow it.
--- Assumes nothing.
+--
 use mathlib.Core.Path.{refl, sym, _∙_}
 use native.Mathlib.Omega.{arith}
 use denote.Ref.{now}
-use Rattle.search_bodies.proofs.Laws.{entry-room}
+use Rattle.search_bodies.proofs.Bodies.{entry-room}
 use Rattle.spans.proofs.Reading.{run-plain, run-ruled}
 use Rattle.spans.proofs.next_run.Statement.{statement}
 use Rattle.spans.proofs.next_run.Tie as tie

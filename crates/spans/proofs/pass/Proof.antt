@@ -1,10 +1,10 @@
--- `pass` meets its contract: the entry's rules end where the next entry begins, and their code is what is left out. Assumes nothing.
+-- `pass` meets its contract: the entry's rules end where the next entry begins, and their code is what is left out.
 use mathlib.Core.Path.{refl}
 use native.Mathlib.Omega.{arith}
 use borrow.Author.Needs.{needs}
 use denote.Ref.{now}
 use Rattle.definitions.specs.Word.{numberAt}
-use Rattle.search_bodies.proofs.Laws.{entry-room, entries-here, bodies-long}
+use Rattle.search_bodies.proofs.Bodies.{entry-room, entries-here, bodies-long}
 use Rattle.set_view.proofs.Walk.{behind-more, entry-inside, entry-past}
 use Rattle.set_view.specs.Parts.{entryPast}
 use Rattle.spans.proofs.pass.Statement.{statement}

@@ -1,4 +1,4 @@
--- `skip` meets its contract. The loop's invariant: what is left to be passed leads from here to where the whole leads. Assumes nothing.
+-- `skip` meets its contract. The loop's invariant: what is left to be passed leads from here to where the whole leads.
 use mathlib.Core.Path.{_≡_, refl, _∙_}
 use Prim.Native.Nat.{_≤_}
 use native.Mathlib.Omega.{arith}

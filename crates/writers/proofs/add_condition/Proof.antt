@@ -4,7 +4,7 @@ use mathlib.Core.Path.{ap, sym, _∙_}
 use mathlib.Core.List.{List}
 use Prim.Native.Nat.{ℕ}
 use native.Mathlib.Omega.{arith}
-use Rattle.writers.proofs.Laws.{raised}
+use Rattle.writers.proofs.Stores.{raised}
 use Rattle.writers.proofs.Codes.{code-zero}
 use Rattle.writers.proofs.Writers.{refused, coded, added}
 use borrow.Author.Needs.{needs}
@@ -23,11 +23,11 @@ told-requires c κs = search needs
 returns : tie.Need-returns
 returns c = refused (coded (c .before .before .before .before .before .before .args .index) (c .before .before .before .before .before .before .args .width) (c .before .before .before .before .before .before .args .operator) (c .before .before .before .before .before .before .args .value) (c .before .before .before .before .before .before .args .mask) _ _ _ _ (c .before .before .verdict .ensures) (c .before .before .before .before .condition-good .ensures)) (c .before .if1 .taken) (c .told .ensures)
 
-cast-put-condition : tie.Need-cast-put-condition
-cast-put-condition c = search needs
+cast-write-condition : tie.Need-cast-write-condition
+cast-write-condition c = search needs
 
-put-condition-requires : tie.Need-put-condition-requires
-put-condition-requires c κs = let t = code-zero (sym (c .before .before .before .verdict .ensures) ∙ c .before .before .if1 .left) in omega (arith, t .room)
+write-condition-requires : tie.Need-write-condition-requires
+write-condition-requires c κs = let t = code-zero (sym (c .before .before .before .verdict .ensures) ∙ c .before .before .if1 .left) in omega (arith, t .room)
 
 cast-raise : tie.Need-cast-raise
 cast-raise c = search needs
@@ -42,7 +42,7 @@ same-length : tie.Need-same-length
 same-length c = search needs
 
 returns-2 : tie.Need-returns-2
-returns-2 c = added (c .before .before .before .before .before .before .before .before .before .before .before .before .before .before .before .before .args .index) (c .before .before .before .before .before .before .before .before .before .before .before .before .before .before .before .before .args .width) (c .before .before .before .before .before .before .before .before .before .before .before .before .before .before .before .before .args .operator) (c .before .before .before .before .before .before .before .before .before .before .before .before .before .before .before .before .args .value) (c .before .before .before .before .before .before .before .before .before .before .before .before .before .before .before .before .args .mask) (omega arith) (omega arith) (omega arith) (sym (coded (c .before .before .before .before .before .before .before .before .before .before .before .before .before .before .before .before .args .index) (c .before .before .before .before .before .before .before .before .before .before .before .before .before .before .before .before .args .width) (c .before .before .before .before .before .before .before .before .before .before .before .before .before .before .before .before .args .operator) (c .before .before .before .before .before .before .before .before .before .before .before .before .before .before .before .before .args .value) (c .before .before .before .before .before .before .before .before .before .before .before .before .before .before .before .before .args .mask) _ _ _ _ (c .before .before .before .before .before .before .before .before .before .before .before .before .verdict .ensures) (c .before .before .before .before .before .before .before .before .before .before .before .before .before .before .condition-good .ensures)) ∙ c .before .before .before .before .before .before .before .before .before .before .before .if1 .left) (c .before .before .before .raise .ensures ∙ ap (λ (l : List ℕ). raised l (c .before .before .before .before .before .before .before .before .before .before .before .before .before .before .before .before .args .w .rule)) (c .before .before .before .before .before .before .before .before .put-condition .ensures))
+returns-2 c = added (c .before .before .before .before .before .before .before .before .before .before .before .before .before .before .before .before .args .index) (c .before .before .before .before .before .before .before .before .before .before .before .before .before .before .before .before .args .width) (c .before .before .before .before .before .before .before .before .before .before .before .before .before .before .before .before .args .operator) (c .before .before .before .before .before .before .before .before .before .before .before .before .before .before .before .before .args .value) (c .before .before .before .before .before .before .before .before .before .before .before .before .before .before .before .before .args .mask) (omega arith) (omega arith) (omega arith) (sym (coded (c .before .before .before .before .before .before .before .before .before .before .before .before .before .before .before .before .args .index) (c .before .before .before .before .before .before .before .before .before .before .before .before .before .before .before .before .args .width) (c .before .before .before .before .before .before .before .before .before .before .before .before .before .before .before .before .args .operator) (c .before .before .before .before .before .before .before .before .before .before .before .before .before .before .before .before .args .value) (c .before .before .before .before .before .before .before .before .before .before .before .before .before .before .before .before .args .mask) _ _ _ _ (c .before .before .before .before .before .before .before .before .before .before .before .before .verdict .ensures) (c .before .before .before .before .before .before .before .before .before .before .before .before .before .before .condition-good .ensures)) ∙ c .before .before .before .before .before .before .before .before .before .before .before .if1 .left) (c .before .before .before .raise .ensures ∙ ap (λ (l : List ℕ). raised l (c .before .before .before .before .before .before .before .before .before .before .before .before .before .before .before .before .args .w .rule)) (c .before .before .before .before .before .before .before .before .write-condition .ensures))
 
 pub add-condition-spec : {M : Type 1} → statement M
 add-condition-spec =
@@ -52,8 +52,8 @@ add-condition-spec =
     verdict-requires
     told-requires
     returns
-    cast-put-condition
-    put-condition-requires
+    cast-write-condition
+    write-condition-requires
     cast-raise
     raise-requires
     add-t17

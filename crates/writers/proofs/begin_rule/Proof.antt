@@ -4,7 +4,7 @@ use mathlib.Core.Path.{ap, sym, _∙_}
 use mathlib.Core.List.{List}
 use Prim.Native.Nat.{ℕ, _+_}
 use native.Mathlib.Omega.{arith}
-use Rattle.writers.proofs.Laws.{raised}
+use Rattle.writers.proofs.Stores.{raised}
 use Rattle.writers.proofs.Codes.{code-zero}
 use Rattle.writers.proofs.Writers.{refused, begun}
 use borrow.Author.Needs.{needs}
@@ -20,11 +20,11 @@ told-requires c κs = search needs
 returns : tie.Need-returns
 returns c = refused (c .before .before .verdict .ensures) (c .before .if1 .taken) (c .told .ensures)
 
-cast-put-u32 : tie.Need-cast-put-u32
-cast-put-u32 c = search needs
+cast-write-u32 : tie.Need-cast-write-u32
+cast-write-u32 c = search needs
 
-put-u32-requires : tie.Need-put-u32-requires
-put-u32-requires c κs = let t = code-zero (sym (c .before .before .before .verdict .ensures) ∙ c .before .before .if1 .left) in omega (arith, t .room)
+write-u32-requires : tie.Need-write-u32-requires
+write-u32-requires c κs = let t = code-zero (sym (c .before .before .before .verdict .ensures) ∙ c .before .before .if1 .left) in omega (arith, t .room)
 
 cast-raise : tie.Need-cast-raise
 cast-raise c = search needs
@@ -42,7 +42,7 @@ same-length : tie.Need-same-length
 same-length c = search needs
 
 returns-2 : tie.Need-returns-2
-returns-2 c = begun (sym (c .before .before .before .before .before .before .before .before .before .before .before .before .verdict .ensures) ∙ c .before .before .before .before .before .before .before .before .before .before .before .if1 .left) (c .before .before .before .raise .ensures ∙ ap (λ (l : List ℕ). raised l (c .before .before .before .before .before .before .before .before .before .before .before .before .before .before .before .args .w .entry + 4)) (c .before .before .before .before .before .before .before .before .put-u32 .ensures))
+returns-2 c = begun (sym (c .before .before .before .before .before .before .before .before .before .before .before .before .verdict .ensures) ∙ c .before .before .before .before .before .before .before .before .before .before .before .if1 .left) (c .before .before .before .raise .ensures ∙ ap (λ (l : List ℕ). raised l (c .before .before .before .before .before .before .before .before .before .before .before .before .before .before .before .args .w .entry + 4)) (c .before .before .before .before .before .before .before .before .write-u32 .ensures))
 
 pub begin-rule-spec : {M : Type 1} → statement M
 begin-rule-spec =
@@ -51,8 +51,8 @@ begin-rule-spec =
     verdict-requires
     told-requires
     returns
-    cast-put-u32
-    put-u32-requires
+    cast-write-u32
+    write-u32-requires
     cast-raise
     add-raise
     raise-requires

@@ -3,7 +3,7 @@ use mathlib.Core.Path.{ap, sym, _∙_}
 use mathlib.Core.List.{List}
 use Prim.Native.Nat.{ℕ}
 use native.Mathlib.Omega.{arith}
-use Rattle.writers.proofs.Laws.{raised}
+use Rattle.writers.proofs.Stores.{raised}
 use Rattle.writers.proofs.Codes.{code-zero}
 use Rattle.writers.proofs.Writers.{refused, listed}
 use borrow.Author.Needs.{needs}
@@ -19,11 +19,11 @@ told-requires c κs = search needs
 returns : tie.Need-returns
 returns c = refused (c .before .before .verdict .ensures) (c .before .if1 .taken) (c .told .ensures)
 
-cast-put-entry : tie.Need-cast-put-entry
-cast-put-entry c = search needs
+cast-write-entry : tie.Need-cast-write-entry
+cast-write-entry c = search needs
 
-put-entry-requires : tie.Need-put-entry-requires
-put-entry-requires c κs = let t = code-zero (sym (c .before .before .before .verdict .ensures) ∙ c .before .before .if1 .left) in omega (arith, t .room)
+write-entry-requires : tie.Need-write-entry-requires
+write-entry-requires c κs = let t = code-zero (sym (c .before .before .before .verdict .ensures) ∙ c .before .before .if1 .left) in omega (arith, t .room)
 
 raise-requires : tie.Need-raise-requires
 raise-requires c κs = let t = code-zero (sym (c .before .before .before .before .before .before .before .verdict .ensures) ∙ c .before .before .before .before .before .before .if1 .left) in omega (arith, t .room, t .head)
@@ -35,7 +35,7 @@ same-length : tie.Need-same-length
 same-length c = search needs
 
 returns-2 : tie.Need-returns-2
-returns-2 c = listed (omega arith) (sym (c .before .before .before .before .before .before .before .before .before .before .before .verdict .ensures) ∙ c .before .before .before .before .before .before .before .before .before .before .if1 .left) (c .before .before .before .raise .ensures ∙ ap (λ (l : List ℕ). raised l 12) (c .before .before .before .before .before .before .before .put-entry .ensures))
+returns-2 c = listed (omega arith) (sym (c .before .before .before .before .before .before .before .before .before .before .before .verdict .ensures) ∙ c .before .before .before .before .before .before .before .before .before .before .if1 .left) (c .before .before .before .raise .ensures ∙ ap (λ (l : List ℕ). raised l 12) (c .before .before .before .before .before .before .before .write-entry .ensures))
 
 pub list-spec : {M : Type 1} → statement M
 list-spec =
@@ -44,8 +44,8 @@ list-spec =
     verdict-requires
     told-requires
     returns
-    cast-put-entry
-    put-entry-requires
+    cast-write-entry
+    write-entry-requires
     raise-requires
     add-t12
     same-length

@@ -27,16 +27,16 @@ unfolding startCode
 returns-2 c =
     rw (c .not-started2 .ensures) (begin-refused 3 (λ z. omega arith) (rw (← c .before .before .before .head-good .ensures, not-false (c .before .before .before .head-good .result) (c .before .before .if1 .left), lt-leb _ _ (c .before .if2 .taken))))
 
-put-head-requires : tie.Need-put-head-requires
-put-head-requires c κs = search needs
+write-head-requires : tie.Need-write-head-requires
+write-head-requires c κs = search needs
 
 same-length : tie.Need-same-length
 same-length c = search needs
 
 returns-3 : tie.Need-returns-3
-returns-3 c = begun-set (sym (c .before .before .before .before .before .before .head-good .ensures) ∙ not-false (c .before .before .before .before .before .before .head-good .result) (c .before .before .before .before .before .if1 .left)) (c .before .before .before .before .if2 .left) (c .before .before .put-head .ensures)
+returns-3 c = begun-set (sym (c .before .before .before .before .before .before .head-good .ensures) ∙ not-false (c .before .before .before .before .before .before .head-good .result) (c .before .before .before .before .before .if1 .left)) (c .before .before .before .before .if2 .left) (c .before .before .write-head .ensures)
 
 pub start-spec : {M : Type 1} → statement M
 start-spec =
     tie.close
-    (tie.spec head-good-requires not-started-requires returns not-started-requires-2 returns-2 put-head-requires same-length returns-3)
+    (tie.spec head-good-requires not-started-requires returns not-started-requires-2 returns-2 write-head-requires same-length returns-3)

@@ -1,11 +1,11 @@
--- `put_u32` meets its contract: its four stores are one `place`.
+-- `write_u32` meets its contract: its four stores are one `place`.
 use native.Mathlib.Omega.{arith}
 use lib.ListN.{length-set}
 use Rattle.definitions.specs.Word.{bytesOf}
-use Rattle.writers.proofs.Laws.{stores-4}
+use Rattle.writers.proofs.Stores.{stores-4}
 use borrow.Author.Needs.{needs}
-use Rattle.writers.proofs.put_u32.Statement.{statement}
-use Rattle.writers.proofs.put_u32.Tie as tie
+use Rattle.writers.proofs.write_u32.Statement.{statement}
+use Rattle.writers.proofs.write_u32.Tie as tie
 
 cast-out : tie.Need-cast-out
 cast-out c = search needs
@@ -47,8 +47,8 @@ returns : tie.Need-returns
 unfolding bytesOf
 returns c = stores-4 _ _ _ _ _ _ (omega arith)
 
-pub put-u32-spec : {M : Type 1} → statement M
-put-u32-spec =
+pub write-u32-spec : {M : Type 1} → statement M
+write-u32-spec =
     tie.close
     (tie.spec
     cast-out

@@ -8,7 +8,7 @@ use lib.Seq.{sets-eq, take-at, drop-at, drop-append-add, drop-drop}
 use Rattle.definitions.specs.Word.{bytesOf, numberAt}
 use Rattle.theorems.proofs.Words.{length-bytes, number-here, number-front}
 use Rattle.bpf.specs.Place.{place}
-use Rattle.bpf.proofs.Laws.{length-place, place-append}
+use Rattle.bpf.proofs.Buffer.{length-place, place-append}
 
 -- four stores one after the other
 pub stores-4 : (l : List ℕ) (at a b c d : ℕ) → at + 4 ≤ length l

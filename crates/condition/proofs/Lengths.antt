@@ -1,4 +1,4 @@
--- Laws of a condition's instructions: how its parts make it up, and how long they are. Assumes nothing.
+-- Laws of a condition's instructions: how its parts make it up, and how long they are.
 use mathlib.Core.Path.{_≡_, refl, ap, _∙_}
 use mathlib.Core.List.{_++_}
 use Prim.Native.Nat.{ℕ, _+_, _≤_}

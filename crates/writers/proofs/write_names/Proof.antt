@@ -1,10 +1,10 @@
--- `put_names` meets its contract: its eight stores are one `place`.
+-- `write_names` meets its contract: its eight stores are one `place`.
 use native.Mathlib.Omega.{arith}
 use lib.ListN.{length-set}
-use Rattle.bpf.proofs.Laws.{stores-8}
+use Rattle.bpf.proofs.Buffer.{stores-8}
 use borrow.Author.Needs.{needs}
-use Rattle.writers.proofs.put_names.Statement.{statement}
-use Rattle.writers.proofs.put_names.Tie as tie
+use Rattle.writers.proofs.write_names.Statement.{statement}
+use Rattle.writers.proofs.write_names.Tie as tie
 
 slice-write-out : tie.Need-slice-write-out
 slice-write-out c = search needs
@@ -57,8 +57,8 @@ same-length c = search needs
 returns : tie.Need-returns
 returns c = stores-8 _ _ _ _ _ _ _ _ _ _ (omega arith)
 
-pub put-names-spec : {M : Type 1} → statement M
-put-names-spec =
+pub write-names-spec : {M : Type 1} → statement M
+write-names-spec =
     tie.close
     (tie.spec
     slice-write-out

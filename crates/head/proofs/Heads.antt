@@ -14,7 +14,7 @@ use Rattle.definitions.specs.RuleSet.{Architecture, x86-64, aarch64, riscv64, a
 use Rattle.definitions.specs.Format.{unflagged, architectureOf}
 use Rattle.definitions.specs.Emitted.{load, ifEqual, return, guard, numberCode, headCode}
 use Rattle.bpf.specs.Place.{place}
-use Rattle.bpf.proofs.Laws.{put-first, puts-append}
+use Rattle.bpf.proofs.Buffer.{put-first, puts-append}
 use Rattle.set_view.specs.Names.{namedArchitecture}
 
 -- the test of the architecture

@@ -1,5 +1,5 @@
 -- Laws of numbers in bytes, of bytes put into a buffer, and of a loop that writes instructions there. Every crate that writes
--- instructions goes by these and never looks into `place`. Assumes nothing.
+-- instructions goes by these and never looks into `place`.
 use mathlib.Core.Path.{_≡_, refl, ap, sym, _∙_}
 use mathlib.Core.List.{List, [], _∷_, _++_, append-assoc, append-nil}
 use Prim.Native.Nat.{ℕ, suc, _+_, _-_, _*_, _≤_, _<_}

@@ -1,5 +1,5 @@
 -- Laws of a filter's instructions and of the places that its entries are read from: one turn of the loop, its end, and how the parts
--- make up the whole. Assumes nothing.
+-- make up the whole.
 use mathlib.Core.Path.{_≡_, refl, ap}
 use mathlib.Core.List.{List, [], _∷_, _++_, append-assoc}
 use Prim.Native.Nat.{ℕ, zero, suc, _+_, _-_, _*_, _≤_}
@@ -11,7 +11,7 @@ use Rattle.definitions.specs.Machine.{instructionBytes, filterBytes}
 use Rattle.definitions.specs.RuleSet.{guarded}
 use Rattle.definitions.specs.Emitted.{jumpBy, ifEqual, return, rulesCode, bodyCode, entryCode, entriesCode, numbersCode, headCode, headed, emitted}
 use Rattle.bpf.specs.Place.{place}
-use Rattle.bpf.proofs.Laws.{put-first, put-next, puts-append}
+use Rattle.bpf.proofs.Buffer.{put-first, put-next, puts-append}
 use Rattle.set_view.specs.Names.{guardsBy, namedArchitecture}
 use Rattle.set_view.specs.Parts.{entriesHere, entryHere, entryPast, parts, rulesHere, setHere}
 use Rattle.set_view.proofs.Walk.{parts-more, parts-none, parts-many}

@@ -1,5 +1,5 @@
 -- What the proofs on buffers lean on: a store lets the pattern grow, a test that failed promises nothing, and an answer that was compared
--- is the definition's. Assumes nothing.
+-- is the definition's.
 use Prim.Native.Nat.{ℕ, _+_, _<_}
 use mathlib.Core.Path.{_≡_, sym, _∙_}
 use mathlib.Core.Bool.{true, false}

@@ -13,7 +13,7 @@ use Rattle.definitions.specs.Machine.{instructionBytes, filterBytes}
 use Rattle.definitions.specs.RuleSet.{Rule}
 use Rattle.definitions.specs.Emitted.{jumpBy, return, conditionCode, reach, helpers, near, stepCode, stepDistance, conditionsCode, distance, ruleCode, ruleBody}
 use Rattle.bpf.specs.Place.{place, placeBefore}
-use Rattle.bpf.proofs.Laws.{length-place, place-nil, length-filterBytes, put-first, put-2, puts-before, before-is, WritingBefore}
+use Rattle.bpf.proofs.Buffer.{length-place, place-nil, length-filterBytes, put-first, put-2, puts-before, before-is, WritingBefore}
 use Rattle.set_view.specs.Parts.{conditionHere, conditionPast, conditionsHere}
 use Rattle.set_view.proofs.Walk.{parts-more, parts-none}
 
