@@ -4,12 +4,12 @@ use mathlib.Core.Path.{_≡_, refl, ap, sym, _∙_}
 use mathlib.Core.Bool.{Bool, true, false, cond, not, _&&_}
 use mathlib.Core.List.{List, [], _∷_, _++_}
 use mathlib.Core.Option.{Option, none, some}
-use Prim.Native.Nat.{ℕ, zero, suc, _+_, _-_, _*_, _≤_, _<_}
+use Prim.Native.Nat.{ℕ, zero, suc, _+_, _-_, _*_, _/_, _≤_, _<_}
 use native.Mathlib.Nat.{add-zero, add-assoc}
 use native.Mathlib.Omega.{arith}
 use lib.Dec.{eqb, leb, ltb}
 use lib.ListN.{length}
-use borrow.Author.Tests.{leb-true, leb-false, eqb-true, le-leb, lt-leb, eq-eqb, ne-eqb, le-ltb}
+use borrow.Author.Tests.{leb-true, leb-false, ltb-true, ltb-false, eqb-true, le-leb, lt-leb, eq-eqb, ne-eqb, le-ltb}
 use Rattle.definitions.specs.declared.Condition.{Condition}
 use Rattle.definitions.specs.declared.Fault.{Fault}
 use Rattle.definitions.specs.Word.{numberAt}
@@ -29,7 +29,7 @@ use Rattle.set_view.proofs.Agree.{architecture-agrees, conditions-agree, rules-
 use Rattle.judge.specs.declared.Scan.{Scan}
 use Rattle.judge.specs.declared.Turn.{Turn}
 use Rattle.judge.specs.declared.Judged.{Judged}
-use Rattle.judge.specs.Walk.{Sum, sum, total, tells, told, tellCondition, conditionsStart, tellRule, tellEntry, notThere, scanOf, Scanned, plainThere, entriesTold, turnSum, Turned, noTurn, turnOf, headTaken, judged}
+use Rattle.judge.specs.Walk.{Sum, sum, total, tells, told, tellCondition, conditionsStart, tellRule, tellEntry, notThere, scanOf, Scanned, plainThere, runFits, entriesTold, turnSum, Turned, noTurn, turnOf, headTaken, judged}
 
 -- ---- a loop over parts, whatever they are
 
@@ -166,43 +166,82 @@ module _ (s : List ℕ) (at : ℕ) (room : at + 8 ≤ length s) where
   unfolding times
   plain-entry e = rw (entry-read, e)
 
-pub plain-room : (s : List ℕ) (n at : ℕ) → plainThere s n at ≡ true → (n ≡ 0 → ⊥) × (at + 8 ≤ length s) × (numberAt 4 s (at + 4) ≡ 0)
+pub plain-room : (s : List ℕ) (n at least : ℕ) → plainThere s n at least ≡ true
+    → (n ≡ 0 → ⊥) × (at + 8 ≤ length s) × (numberAt 4 s (at + 4) ≡ 0) × (leb least (numberAt 4 s at) ≡ true)
 unfolding plainThere
-plain-room s n at h =
-    let some = both-true (not (eqb n 0)) (leb (at + 8) (length s) && eqb (numberAt 4 s (at + 4)) 0) h in
-    let there = both-true (leb (at + 8) (length s)) (eqb (numberAt 4 s (at + 4)) 0) (some .1) in
-    (λ e. let z : _≡_ {A = ℕ} 0 1 = cc (eq-eqb n 0 e, some .0) in omega arith, leb-true _ _ (there .0), eqb-true _ _ (there .1))
+plain-room s n at least h =
+    let some = both-true (not (eqb n 0)) (leb (at + 8) (length s) && (eqb (numberAt 4 s (at + 4)) 0 && leb least (numberAt 4 s at))) h in
+    let there = both-true (leb (at + 8) (length s)) (eqb (numberAt 4 s (at + 4)) 0 && leb least (numberAt 4 s at)) (some .1) in
+    let next = both-true (eqb (numberAt 4 s (at + 4)) 0) (leb least (numberAt 4 s at)) (there .1) in
+    (λ e. let z : _≡_ {A = ℕ} 0 1 = cc (eq-eqb n 0 e, some .0) in omega arith, leb-true _ _ (there .0), eqb-true _ _ (next .0), next .1)
 
 next : (all n : ℕ) → (n ≡ 0 → ⊥) → n ≤ all → suc (all - n) ≡ all - (n - 1)
 next all n h l = omega arith
 
-pub plain-turn : (s : List ℕ) (all n at : ℕ) (x : Sum) → plainThere s n at ≡ true → n ≤ all
-    → entriesTold s all n at x
-    ≡ entriesTold s all (n - 1) (at + 8)
-    (sum (x .count + 5) (numberAt 4 s at + 1) (cond (ltb (x .count + 5) tooMany) (all - (n - 1)) (x .fits)) (leastOf (x .fault) (unless (leb (x .carried) (numberAt 4 s at)) (fault 2 (all - n) nowhere nowhere))))
-unfolding tellEntry tells
-plain-turn s all n at x h l =
-    let p = plain-room s n at h in
-    walk-turn tellEntry (entryAt s) all n at x _ (p .0) l (plain-entry s at (p .1) (p .2)) ∙ rw (next all n (p .0) l)
+pub plain-turn : (s : List ℕ) (all n at c l k : ℕ) (w : Fault) → plainThere s n at l ≡ true → n ≤ all
+    → entriesTold s all n at (sum c l k w)
+    ≡ entriesTold s all (n - 1) (at + 8) (sum (c + 5) (numberAt 4 s at + 1) (cond (ltb (c + 5) tooMany) (all - (n - 1)) k) w)
+unfolding tellEntry tells unless leastOf
+plain-turn s all n at c l k w h m =
+    let p = plain-room s n at l h in
+    walk-turn tellEntry (entryAt s) all n at (sum c l k w) _ (p .0) m (plain-entry s at (p .1) (p .2)) ∙ rw (p .3, next all n (p .0) m)
+
+same-either : (t : Bool) (n : ℕ) → cond t n n ≡ n
+same-either true n = refl
+same-either false n = refl
+
+-- how many are short enough, with one more of a run
+pub run-step : (all n left before fitted count : ℕ) → (left ≡ 0 → ⊥) → left ≤ n → n ≤ all → count ≡ before + 5 * (n - left)
+    → cond (ltb (count + 5) tooMany) (all - (left - 1)) (cond (eqb left n) fitted (runFits all n left before fitted))
+    ≡ cond (eqb (left - 1) n) fitted (runFits all n (left - 1) before fitted)
+unfolding runFits
+run-step all n left before fitted count h l m c =
+    rw (ne-eqb (left - 1) n (omega arith)) (go (leb tooMany (before + 5)) refl)
+  where
+    far : leb tooMany (before + 5) ≡ false → (u : Bool) → ltb (count + 5) tooMany ≡ u
+        → cond u (all - (left - 1)) (cond (eqb left n) fitted (cond (leb (n - left) ((4096 - before) / 5)) (all - left) (all - n + (4096 - before) / 5)))
+        ≡ cond (leb (n - (left - 1)) ((4096 - before) / 5)) (all - (left - 1)) (all - n + (4096 - before) / 5)
+    far e true p =
+        let a = leb-false tooMany (before + 5) e in
+        let b = ltb-true (count + 5) tooMany p in
+        rw (le-leb (n - (left - 1)) ((4096 - before) / 5) (omega arith))
+    far e false p =
+        let a = leb-false tooMany (before + 5) e in
+        let b = ltb-false (count + 5) tooMany p in
+        rw (lt-leb (n - (left - 1)) ((4096 - before) / 5) (omega arith), ne-eqb left n (omega arith)) (last (leb (n - left) ((4096 - before) / 5)) refl (omega arith))
+      where
+        last : (w : Bool) → leb (n - left) ((4096 - before) / 5) ≡ w → (4096 - before) / 5 ≤ n - left
+            → cond w (all - left) (all - n + (4096 - before) / 5) ≡ all - n + (4096 - before) / 5
+        last true q k = let r = leb-true (n - left) ((4096 - before) / 5) q in omega arith
+        last false q k = refl
+
+    go : (t : Bool) → leb tooMany (before + 5) ≡ t
+        → cond (ltb (count + 5) tooMany) (all - (left - 1)) (cond (eqb left n) fitted (cond t fitted (cond (leb (n - left) ((4096 - before) / 5)) (all - left) (all - n + (4096 - before) / 5))))
+        ≡ cond t fitted (cond (leb (n - (left - 1)) ((4096 - before) / 5)) (all - (left - 1)) (all - n + (4096 - before) / 5))
+    go true e =
+        let a = leb-true tooMany (before + 5) e in
+        rw (le-ltb (count + 5) tooMany (omega arith)) (same-either (eqb left n) fitted)
+    go false e = far e (ltb (count + 5) tooMany) refl
 
 -- where the walk over such entries ends elsewhere than it began, it has passed one
-pub plain-passed : (s : List ℕ) (n from left at : ℕ) → plainThere s n from ≡ true → plainThere s left at ≡ false
-    → at + 8 * left ≡ from + 8 * n → left ≤ n → left < n
-plain-passed s n from left at h stop spot le = go (leb n left) refl
+pub plain-passed : (s : List ℕ) (n from left at first least : ℕ) → plainThere s n from first ≡ true → plainThere s left at least ≡ false
+    → (left ≡ n → least ≡ first) → at + 8 * left ≡ from + 8 * n → left ≤ n → left < n
+plain-passed s n from left at first least h stop same spot le = go (leb n left) refl
   where
     go : (t : Bool) → leb n left ≡ t → left < n
     go true e =
         let l : left ≡ n = omega (arith, leb-true n left e) in
         let a : at ≡ from = omega arith in
+        let k = same l in
         absurd (let z : _≡_ {A = ℕ} 0 1 = cc in omega arith)
     go false e = leb-false n left e
 
--- one with rules
-pub ruled-turn : (s : List ℕ) (all n at : ℕ) (x : Sum) (z : Read Entry) (r : Scan) → (n ≡ 0 → ⊥) → n ≤ all → entryAt s at ≡ some z → r .past ≡ z .past
+-- any other
+pub entry-turn : (s : List ℕ) (all n at : ℕ) (x : Sum) (z : Read Entry) (r : Scan) → (n ≡ 0 → ⊥) → n ≤ all → entryAt s at ≡ some z → r .past ≡ z .past
     → tellEntry (all - n) (z .value) x ≡ sum (r .count) (numberAt 4 s at + 1) (cond (ltb (r .count) tooMany) (suc (all - n)) (x .fits)) (r .fault)
     → entriesTold s all n at x
     ≡ entriesTold s all (n - 1) (r .past) (sum (r .count) (numberAt 4 s at + 1) (cond (ltb (r .count) tooMany) (all - (n - 1)) (x .fits)) (r .fault))
-ruled-turn s all n at x z r h l e p q = walk-turn tellEntry (entryAt s) all n at x z h l e ∙ rw (q, p, next all n h l)
+entry-turn s all n at x z r h l e p q = walk-turn tellEntry (entryAt s) all n at x z h l e ∙ rw (q, p, next all n h l)
 
 -- a turn that found nothing
 pub turn-none : (s : List ℕ) (all n at : ℕ) (x : Sum) (r : Turn) → r ≡ noTurn → (n ≡ 0 → ⊥) → entryAt s at ≡ none → Turned s all n at x r

@@ -91,9 +91,16 @@ conditionTaken s at =
     && (isThere (widthOf (getD s (at + 1) 0))
     && (leb (getD s (at + 2) 0) 6 && (eqb (getD s (at + 2) 0) 5 || eqb (numberAt 8 s (at + 16)) 0))))
 
--- whether one of n entries is left at a place, and it has no rules
-unfoldable pub plainThere : List ℕ → ℕ → ℕ → Bool
-plainThere s n at = not (eqb n 0) && (leb (at + 8) (length s) && eqb (numberAt 4 s (at + 4)) 0)
+-- whether one of n entries is left at a place, without rules and with a number that may come next
+unfoldable pub plainThere : List ℕ → ℕ → ℕ → ℕ → Bool
+plainThere s n at least =
+    not (eqb n 0) && (leb (at + 8) (length s) && (eqb (numberAt 4 s (at + 4)) 0 && leb least (numberAt 4 s at)))
+
+-- how many entries are short enough behind a run of entries without rules, five instructions each
+unfoldable pub runFits : ℕ → ℕ → ℕ → ℕ → ℕ → ℕ
+runFits all n left before fitted =
+    cond (leb tooMany (before + 5)) fitted
+    (cond (leb (n - left) ((4096 - before) / 5)) (all - left) (all - n + (4096 - before) / 5))
 
 -- the last n of so many entries, from a place
 abbrev pub entriesTold : List ℕ → ℕ → ℕ → ℕ → Sum → Option (Read Sum)

@@ -13,7 +13,7 @@ ghost use Rattle.definitions.specs.Format.{widthOf, isThere, times, conditionAt
 ghost use Rattle.definitions.specs.Answer as answers;
 ghost use Rattle.definitions.specs.Answer.{fitsWidth, unless, conditionFaults, leastOf};
 ghost use Rattle.set_view.specs.Parts.{mostBytes};
-ghost use Rattle.judge.specs.Walk.{sum, total, tells, told, tellCondition, tellRule, conditionsStart, notThere, Scanned, plainThere, entriesTold, noTurn, Turned, turnOf, headTaken, judged};
+ghost use Rattle.judge.specs.Walk.{sum, total, tells, told, tellCondition, tellRule, conditionsStart, notThere, Scanned, plainThere, runFits, entriesTold, noTurn, Turned, turnOf, headTaken, judged};
 use definitions::Condition;
 use definitions::Fault;
 use definitions::Width;
@@ -32,6 +32,9 @@ const CONDITION_SIZE: usize = 24;
 
 // A filter of so many instructions is too long.
 const TOO_MANY: usize = 4097;
+
+// How many instructions an entry without rules has.
+const PLAIN_LENGTH: usize = 5;
 
 // What stands for a number that does not apply.
 const NOWHERE: u32 = 0xffffffff;
@@ -146,6 +149,9 @@ fn fits_width(q: Condition) -> bool
 fn condition_fault(found: Fault, q: Condition, entry: u32, rule: u32, condition: u32) -> Fault
     ensures { λ r. ⌜ r ≡ leastOf found (conditionFaults entry rule condition q) ⌝ }
 {
+    if both(q.index <= 5, fits_width(q)) {
+        return found;
+    }
     let index = note(found, q.index <= 5, fault(5, entry, rule, condition));
     note(index, fits_width(q), fault(8, entry, rule, condition))
 }
@@ -283,10 +289,10 @@ fn fitting(all: u32, left: u32, fits: u32, count: usize) -> u32
     fits
 }
 
-// Whether an entry is left, and it has no rules.
-fn plain_there(s: &[u8], left: u32, at: usize) -> bool
+// Whether an entry is left that has no rules, and a number that may come next.
+fn plain_there(s: &[u8], left: u32, at: usize, least: u64) -> bool
     requires { ⌜ (at ≤ length (now s)) × (length (now s) ≤ mostBytes) ⌝ }
-    ensures { λ r. ⌜ r ≡ plainThere (now (s .entry)) left at ⌝ }
+    ensures { λ r. ⌜ r ≡ plainThere (now (s .entry)) left at least ⌝ }
 {
     if left == 0 {
         return false;
@@ -295,11 +301,31 @@ fn plain_there(s: &[u8], left: u32, at: usize) -> bool
         return false;
     }
     let rules = bpf::u32_at(s, at + 4);
-    rules == 0
+    if rules != 0 {
+        return false;
+    }
+    let number = number_at(s, at);
+    least <= number
 }
 
-// Entries without rules, as many as stand one behind the other. They are most of most sets, so they have a loop of their own, which
-// carries little.
+// The same behind a run of entries without rules, of which there were n before it and `left` behind it, and so many instructions before it.
+fn fitting_run(all: u32, n: u32, left: u32, before: usize, fitted: u32) -> u32
+    requires { ⌜ (left ≤ n) × (n ≤ all) × (before ≤ mostBytes) ⌝ }
+    ensures { λ r. ⌜ r ≡ runFits all n left before fitted ⌝ }
+{
+    if TOO_MANY <= before + PLAIN_LENGTH {
+        return fitted;
+    }
+    let room = (TOO_MANY - 1 - before) / PLAIN_LENGTH;
+    let run = (n - left) as usize;
+    if run <= room {
+        return all - left;
+    }
+    all - n + (room as u32)
+}
+
+// Entries without rules, as many as stand one behind the other and ascend. They are most of most sets, so they have a loop of their own,
+// which carries little and meets no fault.
 fn scan_plain(
     s: &[u8],
     all: u32,
@@ -310,27 +336,18 @@ fn scan_plain(
     fitted: u32,
     found: Fault,
 ) -> Turn
-    requires { ⌜ (from ≤ length (now s)) × (length (now s) ≤ mostBytes) × (before ≤ from) × (n ≤ all) × (plainThere (now s) n from ≡ true) ⌝ }
+    requires { ⌜ (from ≤ length (now s)) × (length (now s) ≤ mostBytes) × (before ≤ from) × (n ≤ all) × (plainThere (now s) n from first ≡ true) ⌝ }
     ensures { λ r. ⌜ Turned (now (s .entry)) all n from (sum before first fitted found) r ⌝ }
 {
     let mut count = before;
-    let mut fits = fitted;
-    let mut fault = found;
     let mut least = first;
     let mut at = from;
     let mut left = n;
-    while plain_there(s, left, at) {
-        let number = number_at(s, at);
-        fault = note(
-            fault,
-            least <= number,
-            crate::fault(2, all - left, NOWHERE, NOWHERE),
-        );
-        least = number + 1;
-        count = count + 5;
+    while plain_there(s, left, at, least) {
+        least = number_at(s, at) + 1;
+        count = count + PLAIN_LENGTH;
         at = at + ENTRY_SIZE;
         left = left - 1;
-        fits = fitting(all, left, fits, count);
     }
     Turn {
         ok: true,
@@ -338,13 +355,13 @@ fn scan_plain(
         least: least,
         past: at,
         count: count,
-        fits: fits,
-        fault: fault,
+        fits: fitting_run(all, n, left, before, fitted),
+        fault: found,
     }
 }
 
-// The entry with rules that stands at a place, the first of the last n.
-fn scan_ruled(
+// The entry that stands at a place, the first of the last n.
+fn scan_entry(
     s: &[u8],
     all: u32,
     n: u32,
@@ -387,7 +404,7 @@ fn scan_ruled(
     }
 }
 
-// The entries without rules that stand at a place; or the one with rules.
+// The entries without rules that stand at a place; or the one that has some, or is out of order.
 fn scan_turn(
     s: &[u8],
     all: u32,
@@ -401,10 +418,10 @@ fn scan_turn(
     requires { ⌜ (at ≤ length (now s)) × (length (now s) ≤ mostBytes) × (before ≤ at) × (n ≤ all) × (n ≡ 0 → ⊥) ⌝ }
     ensures { λ r. ⌜ Turned (now (s .entry)) all n at (sum before least fitted found) r ⌝ }
 {
-    if plain_there(s, n, at) {
+    if plain_there(s, n, at, least) {
         return scan_plain(s, all, n, at, least, before, fitted, found);
     }
-    scan_ruled(s, all, n, at, least, before, fitted, found)
+    scan_entry(s, all, n, at, least, before, fitted, found)
 }
 
 // All n entries.

@@ -24,8 +24,24 @@ u32-at-requires c κs = search needs
 
 returns-3 : tie.Need-returns-3
 unfolding plainThere
-returns-3 c = rw (ne-eqb _ _ (c .before .before .if1 .left), le-leb _ _ (c .before .if2 .left), ← c .u32-at .ensures)
+returns-3 c = rw (ne-eqb _ _ (c .before .before .before .if1 .left), le-leb _ _ (c .before .before .if2 .left), ← c .before .u32-at .ensures, ne-eqb _ _ (c .if3 .taken))
+
+number-at-requires : tie.Need-number-at-requires
+number-at-requires c κs = search needs
+
+returns-4 : tie.Need-returns-4
+unfolding plainThere
+returns-4 c = rw (ne-eqb _ _ (c .before .before .before .before .if1 .left), le-leb _ _ (c .before .before .before .if2 .left), ← c .before .before .u32-at .ensures, eq-eqb _ _ (c .before .if3 .left), ← c .number-at .ensures .0)
 
 pub plain-there-spec : {M : Type 1} → statement M
 plain-there-spec =
-    tie.close (tie.spec returns add-if2 returns-2 add-u32-at u32-at-requires returns-3)
+    tie.close
+    (tie.spec
+    returns
+    add-if2
+    returns-2
+    add-u32-at
+    u32-at-requires
+    returns-3
+    number-at-requires
+    returns-4)

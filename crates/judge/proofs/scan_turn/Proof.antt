@@ -14,13 +14,13 @@ scan-plain-requires c κs = (c .before .before .before .pre .0, c .before .befor
 returns : tie.Need-returns
 returns c = c .scan-plain .ensures
 
-scan-ruled-requires : tie.Need-scan-ruled-requires
-scan-ruled-requires c κs = c .before .before .before .pre
+scan-entry-requires : tie.Need-scan-entry-requires
+scan-entry-requires c κs = c .before .before .before .pre
 
 returns-2 : tie.Need-returns-2
-returns-2 c = c .scan-ruled .ensures
+returns-2 c = c .scan-entry .ensures
 
 pub scan-turn-spec : {M : Type 1} → statement M
 scan-turn-spec =
     tie.close
-    (tie.spec plain-there-requires scan-plain-requires returns scan-ruled-requires returns-2)
+    (tie.spec plain-there-requires scan-plain-requires returns scan-entry-requires returns-2)

@@ -1,4 +1,4 @@
--- `scan_ruled` meets its contract: what its rules are told on top of is what the entry adds itself.
+-- `scan_entry` meets its contract: what its rules are told on top of is what the entry adds itself.
 use borrow.Author.Needs.{needs}
 use mathlib.Core.Path.{_∙_}
 use Prim.Native.Nat.{_-_}
@@ -6,9 +6,9 @@ use native.Mathlib.Omega.{arith}
 use borrow.Author.Tests.{not-true, not-false}
 use denote.Ref.{now}
 use Rattle.judge.specs.Walk.{sum}
-use Rattle.judge.proofs.Walk.{turn-none, entry-short, entry-stop, entry-there, ruled-turn}
-use Rattle.judge.proofs.scan_ruled.Statement.{statement}
-use Rattle.judge.proofs.scan_ruled.Tie as tie
+use Rattle.judge.proofs.Walk.{turn-none, entry-short, entry-stop, entry-there, entry-turn}
+use Rattle.judge.proofs.scan_entry.Statement.{statement}
+use Rattle.judge.proofs.scan_entry.Tie as tie
 
 add-if1 : tie.Need-add-if1
 add-if1 c = search needs
@@ -73,12 +73,12 @@ returns-3 c =
     let inside = c .before .before .before .before .scan-rules .ensures .inside ok in
     let there = entry-there (now (c .before .before .before .before .before .before .before .before .before .before .before .before .args .s)) (c .before .before .before .before .before .before .before .before .before .before .before .before .args .at) (c .before .before .before .before .before .before .before .before .before .before .if1 .left) (c .before .before .before .before .before .before .before .before .before .before .before .before .args .all - c .before .before .before .before .before .before .before .before .before .before .before .before .args .n) (sum (c .before .before .before .before .before .before .before .before .before .before .before .before .args .before) (c .before .before .before .before .before .before .before .before .before .before .before .before .args .least) (c .before .before .before .before .before .before .before .before .before .before .before .before .args .fitted) (c .before .before .before .before .before .before .before .before .before .before .before .before .args .found)) (c .before .before .before .before .scan-rules .result) (c .before .before .before .before .scan-rules .ensures .same ∙ rw (c .before .before .before .before .before .around-rules .ensures .0, c .before .before .before .before .before .before .before .note .ensures, c .before .before .before .before .before .before .before .before .fault .ensures, c .before .before .before .before .before .before .before .before .before .number-at .ensures .0, c .before .before .before .before .before .before .u32-at .ensures)) ok in
     record {
-      same = ruled-turn _ _ _ _ _ (there .0) (c .before .before .before .before .scan-rules .result) (c .before .before .before .before .before .before .before .before .before .before .before .before .pre .4) (c .before .before .before .before .before .before .before .before .before .before .before .before .pre .3) (there .1) (there .2) (there .3) ∙ rw (c .fitting .ensures, c .before .before .before .before .before .before .before .before .before .number-at .ensures .0);
+      same = entry-turn _ _ _ _ _ (there .0) (c .before .before .before .before .scan-rules .result) (c .before .before .before .before .before .before .before .before .before .before .before .before .pre .4) (c .before .before .before .before .before .before .before .before .before .before .before .before .pre .3) (there .1) (there .2) (there .3) ∙ rw (c .fitting .ensures, c .before .before .before .before .before .before .before .before .before .number-at .ensures .0);
       inside = λ e. (inside .0, inside .1, omega arith);
     }
 
-pub scan-ruled-spec : {M : Type 1} → statement M
-scan-ruled-spec =
+pub scan-entry-spec : {M : Type 1} → statement M
+scan-entry-spec =
     tie.close
     (tie.spec
     add-if1
