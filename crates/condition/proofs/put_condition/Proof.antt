@@ -1,5 +1,4 @@
 -- `put_condition` meets its contract: a dword's instructions are its low part, a qword's its high part and the low part behind it.
---
 use borrow.Author.Needs.{needs}
 use native.Mathlib.Omega.{arith}
 use Rattle.bpf.proofs.Buffer.{put-both}

@@ -1,5 +1,4 @@
 -- `holds` meets its contract: the compiler's contract makes the answer the definition's, and the two comparisons give the bytes.
---
 use native.Mathlib.Omega.{arith}
 use borrow.Author.Needs.{needs}
 use borrow.Author.Tests.{not-false}

@@ -1,5 +1,4 @@
 -- `next_run` meets its contract: a number with rules is a run by itself, and one without is gathered with those that follow it.
---
 use mathlib.Core.Path.{refl, sym, _∙_}
 use native.Mathlib.Omega.{arith}
 use denote.Ref.{now}
