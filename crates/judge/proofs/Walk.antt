@@ -23,13 +23,13 @@ use Rattle.theorems.proofs.Lengths.{length-step, length-emitted}
 use Rattle.theorems.proofs.Tests.{then-some, some-same, both-true}
 use Rattle.theorems.proofs.Faults.{least-append}
 use Rattle.set_view.specs.Names.{namedArchitecture, guardsBy}
-use Rattle.set_view.specs.Parts.{mostBytes, parts, conditionHere, conditionsHere, rulesHere}
+use Rattle.set_view.specs.Parts.{headTaken, mostBytes, parts, conditionHere, conditionsHere, rulesHere}
 use Rattle.set_view.proofs.Walk.{parts-many}
 use Rattle.set_view.proofs.Agree.{architecture-agrees, conditions-agree, rules-agree}
 use Rattle.judge.specs.declared.Scan.{Scan}
 use Rattle.judge.specs.declared.Turn.{Turn}
 use Rattle.judge.specs.declared.Judged.{Judged}
-use Rattle.judge.specs.Walk.{Sum, sum, total, tells, told, tellCondition, conditionsStart, tellRule, tellEntry, notThere, scanOf, Scanned, plainThere, runFits, entriesTold, turnSum, Turned, noTurn, turnOf, headTaken, judged}
+use Rattle.judge.specs.Walk.{Sum, sum, total, tells, told, tellCondition, conditionsStart, tellRule, tellEntry, notThere, scanOf, Scanned, plainThere, runFits, entriesTold, turnSum, Turned, noTurn, turnOf, judged}
 
 -- ---- a loop over parts, whatever they are
 

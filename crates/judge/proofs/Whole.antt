@@ -18,12 +18,12 @@ use Rattle.theorems.specs.Length.{entryLength, headLength, filterLength}
 use Rattle.theorems.specs.Length as lengths
 use Rattle.theorems.proofs.Faults.{least-append}
 use Rattle.set_view.specs.Names.{namedArchitecture, guardsBy}
-use Rattle.set_view.specs.Parts.{mostBytes, entryHere, entryPast, entriesHere}
+use Rattle.set_view.specs.Parts.{headTaken, mostBytes, entryHere, entryPast, entriesHere}
 use Rattle.set_view.proofs.Walk.{parts-many}
 use Rattle.set_view.proofs.Agree.{architecture-agrees, entries-agree}
 use Rattle.judge.specs.declared.Turn.{Turn}
 use Rattle.judge.specs.declared.Judged.{Judged}
-use Rattle.judge.specs.Walk.{Sum, sum, tells, told, tellEntry, entriesTold, noTurn, turnOf, headTaken, judged}
+use Rattle.judge.specs.Walk.{Sum, sum, tells, told, tellEntry, entriesTold, noTurn, turnOf, judged}
 use Rattle.judge.proofs.Totals.{entries-count, entries-fault, fitting, entries-fit, around, fits-by}
 
 -- ---- the reader, test by test

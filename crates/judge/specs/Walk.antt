@@ -11,9 +11,9 @@ use lib.ListN.{length, getD}
 use Rattle.definitions.specs.declared.Condition.{Condition}
 use Rattle.definitions.specs.declared.Fault.{Fault}
 use Rattle.definitions.specs.Word.{numberAt}
-use Rattle.definitions.specs.RuleSet.{Rule, Entry, RuleSet, noRules, isAction}
+use Rattle.definitions.specs.RuleSet.{Rule, Entry, RuleSet, noRules}
 use Rattle.definitions.specs.Emitted.{stepCode, stepDistance}
-use Rattle.definitions.specs.Format.{architectureOf, widthOf, isThere, Read, times, entryAt}
+use Rattle.definitions.specs.Format.{Read, times, entryAt}
 use Rattle.definitions.specs.Answer.{hasConditions, fault, nowhere, placeless, noFault, unless, conditionFaults, tooMany, tooLong, leastOf, refusal}
 use Rattle.theorems.specs.Length.{filterLength}
 use Rattle.judge.specs.declared.Scan.{Scan}
@@ -83,14 +83,6 @@ pub record Scanned (found : Option (Read Sum)) (size : ℕ) (r : Scan) : Type 0 
   pub same : r ≡ scanOf found
   pub inside : r .ok ≡ true → (r .past ≤ size) × (r .count ≤ r .past)
 
--- the tests of a condition's 24 bytes, in the order of the code
-unfoldable pub conditionTaken : List ℕ → ℕ → Bool
-conditionTaken s at =
-    leb (at + 24) (length s)
-    && (eqb (numberAt 8 s at / 16777216) 0
-    && (isThere (widthOf (getD s (at + 1) 0))
-    && (leb (getD s (at + 2) 0) 6 && (eqb (getD s (at + 2) 0) 5 || eqb (numberAt 8 s (at + 16)) 0))))
-
 -- whether one of n entries is left at a place, without rules and with a number that may come next
 unfoldable pub plainThere : List ℕ → ℕ → ℕ → ℕ → Bool
 plainThere s n at least =
@@ -121,10 +113,6 @@ noTurn = record { ok = false; left = 0; least = 0; past = 0; count = 0; fits = 0
 abbrev pub turnOf : Option (Read Sum) → Turn
 turnOf none = noTurn
 turnOf (some r) = record { ok = true; left = 0; least = r .value .carried; past = r .past; count = r .value .count; fits = r .value .fits; fault = r .value .fault }
-
--- the tests of the head
-unfoldable pub headTaken : List ℕ → Bool
-headTaken s = isThere (architectureOf (numberAt 4 s 0)) && (isAction (numberAt 4 s 4) && isAction (numberAt 4 s 8))
 
 -- what is said of a set, by the rule set that is read from it
 unfoldable pub judged : Option RuleSet → Judged

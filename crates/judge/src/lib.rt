@@ -8,12 +8,11 @@ ghost use Prim.Native.Nat.{_+_, _-_, _≤_, _<_};
 ghost use lib.Dec.{eqb, ltb};
 ghost use lib.ListN.{length};
 ghost use Rattle.definitions.specs.Word.{numberAt};
-ghost use Rattle.definitions.specs.RuleSet.{isAction};
-ghost use Rattle.definitions.specs.Format.{widthOf, isThere, times, conditionAt, ruleAt, read};
+ghost use Rattle.definitions.specs.Format.{times, conditionAt, ruleAt, read};
 ghost use Rattle.definitions.specs.Answer as answers;
 ghost use Rattle.definitions.specs.Answer.{fitsWidth, unless, conditionFaults, leastOf};
 ghost use Rattle.set_view.specs.Parts.{mostBytes};
-ghost use Rattle.judge.specs.Walk.{sum, total, tells, told, tellCondition, tellRule, conditionsStart, notThere, Scanned, plainThere, runFits, entriesTold, noTurn, Turned, turnOf, headTaken, judged};
+ghost use Rattle.judge.specs.Walk.{sum, total, tells, told, tellCondition, tellRule, conditionsStart, notThere, Scanned, plainThere, runFits, entriesTold, noTurn, Turned, turnOf, judged};
 use definitions::Condition;
 use definitions::Fault;
 use definitions::Width;
@@ -95,45 +94,6 @@ fn both(a: bool, b: bool) -> bool
     false
 }
 
-// Whether a number stands for a width.
-pub fn width_known(width: u8) -> bool
-    ensures { λ r. ⌜ r ≡ isThere (widthOf width) ⌝ }
-{
-    match width {
-        4 => true,
-        8 => true,
-        _ => false,
-    }
-}
-
-// Whether a condition of the format stands at a place.
-fn condition_there(s: &[u8], at: usize) -> bool
-    requires { ⌜ (at ≤ length (now s)) × (length (now s) ≤ mostBytes) ⌝ }
-    ensures { λ r. ⌜ r ≡ isThere (conditionAt (now (s .entry)) at) ⌝ }
-{
-    if s.len() < at + 24 {
-        return false;
-    }
-    // index, width and operator, and five bytes that are zero
-    let first = bpf::u64_at(s, at) / 16777216;
-    if first != 0 {
-        return false;
-    }
-    if !width_known(s[at + 1]) {
-        return false;
-    }
-    let operator = s[at + 2];
-    if 6 < operator {
-        return false;
-    }
-    // most masks are zero, whatever the operator
-    let mask = bpf::u64_at(s, at + 16);
-    if mask == 0 {
-        return true;
-    }
-    operator == 5
-}
-
 // Whether a condition's value and mask have no more bits than it looks at.
 fn fits_width(q: Condition) -> bool
     ensures { λ r. ⌜ r ≡ fitsWidth q ⌝ }
@@ -175,7 +135,7 @@ fn scan_conditions(
     let mut at = from;
     let mut left = n;
     while left != 0 {
-        if !condition_there(s, at) {
+        if !set_view::condition_there(s, at) {
             return not_there();
         }
         let q = condition_here(s, at);
@@ -459,49 +419,6 @@ fn scan_entries(s: &[u8], n: u32, before: usize, found: Fault) -> Turn
     }
 }
 
-// Whether a word is an action that is known.
-pub fn is_action(w: u32) -> bool
-    ensures { λ r. ⌜ r ≡ isAction w ⌝ }
-{
-    if w == 0x80000000 {
-        return true;
-    }
-    if w == 0x00000000 {
-        return true;
-    }
-    if w == 0x00030000 {
-        return true;
-    }
-    if w == 0x7fc00000 {
-        return true;
-    }
-    if w == 0x7ffc0000 {
-        return true;
-    }
-    if w == 0x7fff0000 {
-        return true;
-    }
-    let kind = w / 65536;
-    if kind == 0x0005 {
-        return true;
-    }
-    kind == 0x7ff0
-}
-
-// Whether the head's architecture and actions are known.
-fn head_there(s: &[u8]) -> bool
-    requires { ⌜ 16 ≤ length (now s) ⌝ }
-    ensures { λ r. ⌜ r ≡ headTaken (now (s .entry)) ⌝ }
-{
-    if !set_view::architecture_known(bpf::u32_at(s, 0)) {
-        return false;
-    }
-    if !is_action(bpf::u32_at(s, 4)) {
-        return false;
-    }
-    is_action(bpf::u32_at(s, 8))
-}
-
 // What is said of a set whatever it is for: its least fault, 1 where it is not of the format; how many instructions its filter has; and
 // the first entry with which that is too long.
 pub struct Judged {
@@ -540,7 +457,7 @@ pub fn judge(s: &[u8]) -> Judged
     if size < HEAD_SIZE {
         return no_set();
     }
-    if !head_there(s) {
+    if !set_view::head_there(s) {
         return no_set();
     }
     let n = bpf::u32_at(s, 12);

@@ -58,10 +58,10 @@ pub fn head_good(architecture: u32, mismatch: u32, on_match: u32) -> bool
     if !set_view::architecture_known(architecture) {
         return false;
     }
-    if !judge::is_action(mismatch) {
+    if !set_view::is_action(mismatch) {
         return false;
     }
-    judge::is_action(on_match)
+    set_view::is_action(on_match)
 }
 
 // Reads the head of a set.
@@ -198,7 +198,7 @@ fn padded(set: &[u8], at: usize) -> bool
 pub fn condition_good(width: u8, operator: u8, mask: u64) -> bool
     ensures { λ r. ⌜ r ≡ conditionGood width operator mask ⌝ }
 {
-    if !judge::width_known(width) {
+    if !set_view::width_known(width) {
         return false;
     }
     if 6 < operator {

@@ -1,16 +1,16 @@
 -- What stands at a place of a rule set's bytes, as total functions of the place, and what the code that walks over them asks for. They
 -- say nothing of whether the bytes are of the format: where they are, this is what the format's reader gives.
 use mathlib.Core.Path.{_≡_}
-use mathlib.Core.Bool.{Bool, not, _&&_}
+use mathlib.Core.Bool.{Bool, not, _&&_, _||_}
 use mathlib.Core.List.{List, [], _∷_}
 use mathlib.Core.Option.{some}
-use Prim.Native.Nat.{ℕ, zero, suc, _+_, _*_, _≤_}
-use lib.Dec.{eqb}
+use Prim.Native.Nat.{ℕ, zero, suc, _+_, _*_, _/_, _≤_}
+use lib.Dec.{eqb, leb}
 use lib.ListN.{length, getD}
 use Rattle.definitions.specs.declared.Condition.{Condition}
 use Rattle.definitions.specs.Word.{numberAt}
-use Rattle.definitions.specs.RuleSet.{Rule, Entry, RuleSet}
-use Rattle.definitions.specs.Format.{nativeOf, read}
+use Rattle.definitions.specs.RuleSet.{Rule, Entry, RuleSet, isAction}
+use Rattle.definitions.specs.Format.{architectureOf, widthOf, isThere, nativeOf, read}
 use Rattle.set_view.specs.Names.{namedArchitecture, namedWidth, namedOperator}
 
 -- how many bytes a set has at most, 1 MiB; the head; a condition
@@ -101,3 +101,17 @@ pub record Readable (s : List ℕ) : Type 0 where
   pub head : 16 ≤ length s
   pub size : length s ≤ mostBytes
   pub entries : entriesPast s (numberAt 4 s 12) 16 ≤ length s
+
+-- ---- what is tested, in the order of the code
+
+-- the tests of the head
+unfoldable pub headTaken : List ℕ → Bool
+headTaken s = isThere (architectureOf (numberAt 4 s 0)) && (isAction (numberAt 4 s 4) && isAction (numberAt 4 s 8))
+
+-- the tests of a condition's 24 bytes, in the order of the code
+unfoldable pub conditionTaken : List ℕ → ℕ → Bool
+conditionTaken s at =
+    leb (at + 24) (length s)
+    && (eqb (numberAt 8 s at / 16777216) 0
+    && (isThere (widthOf (getD s (at + 1) 0))
+    && (leb (getD s (at + 2) 0) 6 && (eqb (getD s (at + 2) 0) 5 || eqb (numberAt 8 s (at + 16)) 0))))

@@ -1,12 +1,13 @@
-// What a rule set's bytes say, read at places that the caller has shown to be inside: names, and parts. Nothing is tested here twice.
+// What a rule set's bytes say, read at places that the caller has shown to be inside: names, and parts; and whether what stands there is of
+// the format. Nothing is tested here twice.
 ghost use mathlib.Core.Path.{_≡_};
 ghost use Prim.Native.Nat.{_+_, _*_, _≤_};
 ghost use lib.ListN.{length};
-ghost use Rattle.definitions.specs.RuleSet.{architectureWord};
+ghost use Rattle.definitions.specs.RuleSet.{architectureWord, isAction};
 ghost use Rattle.definitions.specs.Format as format;
-ghost use Rattle.definitions.specs.Format.{architectureOf, isThere};
+ghost use Rattle.definitions.specs.Format.{architectureOf, widthOf, isThere, conditionAt};
 ghost use Rattle.set_view.specs.Names.{namedArchitecture, guardsBy, namedWidth, namedOperator};
-ghost use Rattle.set_view.specs.Parts.{mostBytes, conditionHere, rulesPast, entriesPast, plainHere, Reach};
+ghost use Rattle.set_view.specs.Parts.{mostBytes, conditionHere, rulesPast, entriesPast, plainHere, Reach, headTaken};
 use definitions::Condition;
 use definitions::Operator;
 use definitions::Width;
@@ -148,4 +149,86 @@ pub fn plain_here(s: &[u8], left: u32, at: usize) -> bool
     }
     let rules = bpf::u32_at(s, at + 4);
     rules == 0
+}
+
+// Whether a word is an action that is known.
+pub fn is_action(w: u32) -> bool
+    ensures { λ r. ⌜ r ≡ isAction w ⌝ }
+{
+    if w == 0x80000000 {
+        return true;
+    }
+    if w == 0x00000000 {
+        return true;
+    }
+    if w == 0x00030000 {
+        return true;
+    }
+    if w == 0x7fc00000 {
+        return true;
+    }
+    if w == 0x7ffc0000 {
+        return true;
+    }
+    if w == 0x7fff0000 {
+        return true;
+    }
+    let kind = w / 65536;
+    if kind == 0x0005 {
+        return true;
+    }
+    kind == 0x7ff0
+}
+
+// Whether the head's architecture and actions are known.
+pub fn head_there(s: &[u8]) -> bool
+    requires { ⌜ 16 ≤ length (now s) ⌝ }
+    ensures { λ r. ⌜ r ≡ headTaken (now (s .entry)) ⌝ }
+{
+    if !architecture_known(bpf::u32_at(s, 0)) {
+        return false;
+    }
+    if !is_action(bpf::u32_at(s, 4)) {
+        return false;
+    }
+    is_action(bpf::u32_at(s, 8))
+}
+
+// Whether a number stands for a width.
+pub fn width_known(width: u8) -> bool
+    ensures { λ r. ⌜ r ≡ isThere (widthOf width) ⌝ }
+{
+    match width {
+        4 => true,
+        8 => true,
+        _ => false,
+    }
+}
+
+// Whether a condition of the format stands at a place.
+pub fn condition_there(s: &[u8], at: usize) -> bool
+    requires { ⌜ (at ≤ length (now s)) × (length (now s) ≤ mostBytes) ⌝ }
+    ensures { λ r. ⌜ r ≡ isThere (conditionAt (now (s .entry)) at) ⌝ }
+{
+    if s.len() < at + 24 {
+        return false;
+    }
+    // index, width and operator, and five bytes that are zero
+    let first = bpf::u64_at(s, at) / 16777216;
+    if first != 0 {
+        return false;
+    }
+    if !width_known(s[at + 1]) {
+        return false;
+    }
+    let operator = s[at + 2];
+    if 6 < operator {
+        return false;
+    }
+    // most masks are zero, whatever the operator
+    let mask = bpf::u64_at(s, at + 16);
+    if mask == 0 {
+        return true;
+    }
+    operator == 5
 }

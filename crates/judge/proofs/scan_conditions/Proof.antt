@@ -9,7 +9,7 @@ use denote.Ref.{now}
 use Rattle.definitions.specs.Format.{times, conditionAt}
 use Rattle.set_view.specs.Parts.{conditionHere}
 use Rattle.judge.specs.Walk.{sum, tells, told, tellCondition, conditionsStart, scanOf}
-use Rattle.judge.proofs.Conditions.{there-not, condition-room, condition-value}
+use Rattle.set_view.proofs.Conditions.{there-not, condition-room, condition-value}
 use Rattle.judge.proofs.Walk.{whole, broken-off, walk-end, walk-stop, walk-turn}
 use Rattle.judge.proofs.scan_conditions.Statement.{statement}
 use Rattle.judge.proofs.scan_conditions.Tie as tie

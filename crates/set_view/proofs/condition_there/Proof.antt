@@ -4,10 +4,10 @@ use borrow.Author.Needs.{needs}
 use borrow.Author.Tests.{lt-leb, le-leb, eq-eqb, ne-eqb, not-true, not-false}
 use denote.Ref.{now}
 use native.Mathlib.Omega.{arith}
-use Rattle.judge.specs.Walk.{conditionTaken}
-use Rattle.judge.proofs.Conditions.{condition-there}
-use Rattle.judge.proofs.condition_there.Statement.{statement}
-use Rattle.judge.proofs.condition_there.Tie as tie
+use Rattle.set_view.specs.Parts.{conditionTaken}
+use Rattle.set_view.proofs.Conditions.{condition-there}
+use Rattle.set_view.proofs.condition_there.Statement.{statement}
+use Rattle.set_view.proofs.condition_there.Tie as tie
 
 add-if1 : tie.Need-add-if1
 add-if1 c = search needs

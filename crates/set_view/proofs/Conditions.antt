@@ -14,9 +14,8 @@ use Rattle.definitions.specs.Format.{isThere, Read, then, check, widthOf, opera
 use Rattle.theorems.proofs.Names.{operator-there}
 use Rattle.theorems.proofs.Tests.{check-some, both-true}
 use Rattle.bpf.proofs.Buffer.{number-suc}
-use Rattle.set_view.specs.Parts.{conditionHere}
+use Rattle.set_view.specs.Parts.{conditionHere, conditionTaken}
 use Rattle.set_view.proofs.Agree.{condition-agrees}
-use Rattle.judge.specs.Walk.{conditionTaken}
 
 there-check : {A : Type 0} (t : Bool) (x : Option A) → isThere (check t x) ≡ (t && isThere x)
 there-check true x = refl

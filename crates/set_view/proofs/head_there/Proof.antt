@@ -1,9 +1,9 @@
 -- `head_there` meets its contract: one test after the other.
 use borrow.Author.Tests.{not-true, not-false}
-use Rattle.judge.specs.Walk.{headTaken}
+use Rattle.set_view.specs.Parts.{headTaken}
 use borrow.Author.Needs.{needs}
-use Rattle.judge.proofs.head_there.Statement.{statement}
-use Rattle.judge.proofs.head_there.Tie as tie
+use Rattle.set_view.proofs.head_there.Statement.{statement}
+use Rattle.set_view.proofs.head_there.Tie as tie
 
 u32-at-requires : tie.Need-u32-at-requires
 u32-at-requires c κs = search needs

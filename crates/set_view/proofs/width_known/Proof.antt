@@ -2,8 +2,8 @@
 use borrow.Author.Tests.{eq-eqb, ne-eqb}
 use mathlib.Core.Bool.{or-true}
 use Rattle.theorems.proofs.Names.{width-there}
-use Rattle.judge.proofs.width_known.Statement.{statement}
-use Rattle.judge.proofs.width_known.Tie as tie
+use Rattle.set_view.proofs.width_known.Statement.{statement}
+use Rattle.set_view.proofs.width_known.Tie as tie
 
 returns : tie.Need-returns
 returns c = rw (width-there, eq-eqb _ _ (c .match .keys1))

@@ -3,8 +3,8 @@ use borrow.Author.Needs.{needs}
 use borrow.Author.Tests.{eq-eqb, ne-eqb}
 use mathlib.Core.Bool.{or-false}
 use Rattle.definitions.specs.RuleSet.{oneOf, isAction}
-use Rattle.judge.proofs.is_action.Statement.{statement}
-use Rattle.judge.proofs.is_action.Tie as tie
+use Rattle.set_view.proofs.is_action.Statement.{statement}
+use Rattle.set_view.proofs.is_action.Tie as tie
 
 returns : tie.Need-returns
 unfolding isAction oneOf
