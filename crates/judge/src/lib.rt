@@ -2,7 +2,7 @@
 // their filter has, and with how many entries it is short enough. Nothing in the bytes is trusted: whatever a count says, the walk ends
 // where the bytes do.
 ghost use mathlib.Core.Path.{_≡_};
-ghost use mathlib.Core.Bool.{true, cond, not, _&&_};
+ghost use mathlib.Core.Bool.{true, cond, not, _&&_, _||_};
 ghost use mathlib.Core.Option.{none};
 ghost use Prim.Native.Nat.{_+_, _-_, _≤_, _<_};
 ghost use lib.Dec.{eqb, ltb};
@@ -49,20 +49,39 @@ pub fn fault(code: u32, entry: u32, rule: u32, condition: u32) -> Fault
     }
 }
 
-// What was found so far, and what a test finds that should hold.
+// Whether a further fault is told instead of the one that was found.
+fn takes(found: u32, more: u32) -> bool
+    ensures { λ r. ⌜ r ≡ (eqb found 0 || ltb more found) ⌝ }
+{
+    if found == 0 {
+        return true;
+    }
+    more < found
+}
+
+fn either(first: bool, a: u32, b: u32) -> u32
+    ensures { λ r. ⌜ r ≡ cond first a b ⌝ }
+{
+    if first {
+        return a;
+    }
+    b
+}
+
+// What was found so far, and what a test finds that should hold. Number by number, so that none of them has to stand in memory.
 pub fn note(found: Fault, holds: bool, more: Fault) -> Fault
     ensures { λ r. ⌜ r ≡ leastOf found (unless holds more) ⌝ }
 {
     if holds {
         return found;
     }
-    if found.code == 0 {
-        return more;
-    }
-    if more.code < found.code {
-        return more;
-    }
-    found
+    let taken = takes(found.code, more.code);
+    fault(
+        either(taken, more.code, found.code),
+        either(taken, more.entry, found.entry),
+        either(taken, more.rule, found.rule),
+        either(taken, more.condition, found.condition),
+    )
 }
 
 // What a walk over a part found, with what was found before it: whether it is of the format, the place behind it, how many instructions
