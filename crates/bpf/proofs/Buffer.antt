@@ -139,12 +139,39 @@ place-before l at next a b e h =
     rw (← e, append-assoc) (drop-at (take next l) (b ++ drop (next + length b) l) next m) in
     rw (t, d, length-append, e) (simp (append-assoc, add-assoc))
 
+-- what is put twice at one place is the later one
+place-again : (l : List ℕ) (at : ℕ) (a c : List ℕ) → length c ≡ length a → at + length a ≤ length l → place (place l at a) at c ≡ place l at c
+unfolding place
+place-again l at a c e h =
+    let n : length (take at l) ≡ at = simp length-take (omega arith) in
+    let m : length (take at l ++ a) ≡ at + length a = simp (length-append, length-take) (omega arith) in
+    let t : take at (take at l ++ a ++ drop (at + length a) l) ≡ take at l = rw append-assoc (take-at (take at l) (a ++ drop (at + length a) l) at n) in
+    let d : drop (at + length a) (take at l ++ a ++ drop (at + length a) l) ≡ drop (at + length a) l = drop-at (take at l ++ a) (drop (at + length a) l) (at + length a) m in
+    rw (e, t, d)
+
+-- one of two instructions, put again
+pub put-over : (l : List ℕ) (at : ℕ) (a b c : Instruction) → at + 16 ≤ length l
+    → place (place (place l at (instructionBytes a)) (at + 8) (instructionBytes b)) at (instructionBytes c) ≡ place l at (filterBytes (c ∷ b ∷ []))
+unfolding filterBytes
+put-over l at a b c h =
+    let first : place (place l at (instructionBytes a)) (at + 8) (instructionBytes b) ≡ place (place l (at + 8) (instructionBytes b)) at (instructionBytes a) =
+    put-2 l at a b h ∙ rw append-nil (sym (place-before l at (at + 8) (instructionBytes a) (instructionBytes b) (rw length-instructionBytes) (rw length-instructionBytes (omega arith)))) in
+    let room : at + length (instructionBytes a) ≤ length (place l (at + 8) (instructionBytes b)) = rw (length-place l (at + 8) (instructionBytes b) (rw length-instructionBytes (omega arith)), length-instructionBytes) (omega arith) in
+    rw (first, append-nil)
+    (place-again (place l (at + 8) (instructionBytes b)) at (instructionBytes a) (instructionBytes c) (rw (length-instructionBytes a, length-instructionBytes c)) room
+    ∙ place-before l at (at + 8) (instructionBytes c) (instructionBytes b) (rw length-instructionBytes) (rw length-instructionBytes (omega arith)))
+
 pub puts-before : (l : List ℕ) (at next : ℕ) (is js : List Instruction) → next ≡ at + 8 * length is → next + 8 * length js ≤ length l
     → place (place l next (filterBytes js)) at (filterBytes is) ≡ place l at (filterBytes (is ++ js))
 puts-before l at next is js e h =
     let n : next ≡ at + length (filterBytes is) = e ∙ ap (λ (k : ℕ). at + k) (sym (length-filterBytes is)) in
     rw filterBytes-append
     (place-before l at next (filterBytes is) (filterBytes js) n (simp length-filterBytes (omega arith)))
+
+-- one in front of two
+pub put-in-front : (l : List ℕ) (at next : ℕ) (a b c : Instruction) → next ≡ at + 8 → next + 16 ≤ length l
+    → place (place (place l next (instructionBytes b)) (next + 8) (instructionBytes c)) at (instructionBytes a) ≡ place l at (filterBytes (a ∷ b ∷ c ∷ []))
+put-in-front l at next a b c e h = rw (put-2 l next b c h, put-first (place l next (filterBytes (b ∷ c ∷ []))) at a) (puts-before l at next (a ∷ []) (b ∷ c ∷ []) e h)
 
 -- ---- a loop that writes instructions one part behind the other: what is left, written, is the whole
 

@@ -1,19 +1,26 @@
--- `put_high` meets its contract, operator by operator.
+-- `put_high` meets its contract: three instructions, or the second of them overwritten by the first.
 use borrow.Author.Needs.{needs}
 use native.Mathlib.Omega.{arith}
-use Rattle.definitions.specs.Emitted.{highPart, highTests}
-use Rattle.theorems.specs.Length.{conditionLength}
+use Rattle.condition.specs.Shape.{highCode}
+use Rattle.bpf.proofs.Buffer.{put-over, put-in-front, put-at}
+use Rattle.condition.proofs.Shapes.{high-two}
 use Rattle.condition.proofs.put_high.Statement.{statement}
 use Rattle.condition.proofs.put_high.Tie as tie
 
-load-word-requires : tie.Need-load-word-requires
-load-word-requires c κs = search needs
+sub-at : tie.Need-sub-at
+sub-at c = let two = high-two (c .before .args .load) (c .before .args .v) (c .before .args .ordered) (c .before .args .t) (c .before .args .f) in omega (arith, c .before .pre)
 
-high-requires : tie.Need-high-requires
-high-requires c κs = search needs
+add-if-greater : tie.Need-add-if-greater
+add-if-greater c = search needs
 
-enum-told : tie.Need-enum-told
-enum-told c = search needs
+if-greater-requires : tie.Need-if-greater-requires
+if-greater-requires c κs = search needs
+
+put-requires : tie.Need-put-requires
+put-requires c κs = let two = high-two (c .before .before .before .args .load) (c .before .before .before .args .v) (c .before .before .before .args .ordered) (c .before .before .before .args .t) (c .before .before .before .args .f) in omega (arith, c .before .before .before .pre)
+
+add-put : tie.Need-add-put
+add-put c = search needs
 
 add-if-equal : tie.Need-add-if-equal
 add-if-equal c = search needs
@@ -21,227 +28,59 @@ add-if-equal c = search needs
 if-equal-requires : tie.Need-if-equal-requires
 if-equal-requires c κs = search needs
 
-put-two-requires : tie.Need-put-two-requires
-unfolding conditionLength
-put-two-requires c κs =
-    let n = rw (c .before .before .enum-told .given .1) at (c .before .before .before .before .before .before .before .pre .1) in
-    omega arith
+put-requires-2 : tie.Need-put-requires-2
+put-requires-2 c κs = let two = high-two (c .before .before .before .before .before .before .before .before .args .load) (c .before .before .before .before .before .before .before .before .args .v) (c .before .before .before .before .before .before .before .before .args .ordered) (c .before .before .before .before .before .before .before .before .args .t) (c .before .before .before .before .before .before .before .before .args .f) in omega (arith, c .before .before .before .before .before .before .before .before .pre)
 
-enum-told-2 : tie.Need-enum-told-2
-enum-told-2 c = search needs
+sub-put : tie.Need-sub-put
+unfolding highCode
+sub-put c = let room = rw (c .before .if1 .taken) at (c .before .before .before .before .before .before .before .before .before .before .before .before .before .pre .2) in omega arith
 
-if-greater-requires : tie.Need-if-greater-requires
-if-greater-requires c κs = search needs
+put-requires-3 : tie.Need-put-requires-3
+unfolding highCode
+put-requires-3 c κs = let room = rw (c .before .if1 .taken) at (c .before .before .before .before .before .before .before .before .before .before .before .before .before .pre .2) in omega (arith, c .before .before .before .before .before .before .before .before .before .before .before .before .before .pre .3)
 
-add-if-equal-2 : tie.Need-add-if-equal-2
-add-if-equal-2 c = search needs
-
-if-equal-requires-2 : tie.Need-if-equal-requires-2
-if-equal-requires-2 c κs = search needs
-
-put-three-requires : tie.Need-put-three-requires
-unfolding conditionLength
-put-three-requires c κs =
-    let n = rw (c .before .before .before .enum-told2 .given .1) at (c .before .before .before .before .before .before .before .before .pre .1) in
-    omega arith
-
-enum-told-3 : tie.Need-enum-told-3
-enum-told-3 c = search needs
-
-if-greater-requires-2 : tie.Need-if-greater-requires-2
-if-greater-requires-2 c κs = search needs
-
-add-if-equal-3 : tie.Need-add-if-equal-3
-add-if-equal-3 c = search needs
-
-if-equal-requires-3 : tie.Need-if-equal-requires-3
-if-equal-requires-3 c κs = search needs
-
-put-three-requires-2 : tie.Need-put-three-requires-2
-unfolding conditionLength
-put-three-requires-2 c κs =
-    let n = rw (c .before .before .before .enum-told3 .given .1) at (c .before .before .before .before .before .before .before .before .pre .1) in
-    omega arith
-
-enum-told-4 : tie.Need-enum-told-4
-enum-told-4 c = search needs
-
-add-if-greater : tie.Need-add-if-greater
-add-if-greater c = search needs
-
-if-greater-requires-3 : tie.Need-if-greater-requires-3
-if-greater-requires-3 c κs = search needs
-
-if-equal-requires-4 : tie.Need-if-equal-requires-4
-if-equal-requires-4 c κs = search needs
-
-put-three-requires-3 : tie.Need-put-three-requires-3
-unfolding conditionLength
-put-three-requires-3 c κs =
-    let n = rw (c .before .before .before .enum-told4 .given .1) at (c .before .before .before .before .before .before .before .before .pre .1) in
-    omega arith
-
-enum-told-5 : tie.Need-enum-told-5
-enum-told-5 c = search needs
-
-add-if-greater-2 : tie.Need-add-if-greater-2
-add-if-greater-2 c = search needs
-
-if-greater-requires-4 : tie.Need-if-greater-requires-4
-if-greater-requires-4 c κs = search needs
-
-if-equal-requires-5 : tie.Need-if-equal-requires-5
-if-equal-requires-5 c κs = search needs
-
-put-three-requires-4 : tie.Need-put-three-requires-4
-unfolding conditionLength
-put-three-requires-4 c κs =
-    let n = rw (c .before .before .before .enum-told5 .given .1) at (c .before .before .before .before .before .before .before .before .pre .1) in
-    omega arith
-
-enum-told-6 : tie.Need-enum-told-6
-enum-told-6 c = search needs
-
-high-requires-2 : tie.Need-high-requires-2
-high-requires-2 c κs = search needs
-
-mask-by-requires : tie.Need-mask-by-requires
-mask-by-requires c κs = search needs
-
-high-requires-3 : tie.Need-high-requires-3
-high-requires-3 c κs = search needs
-
-add-if-equal-4 : tie.Need-add-if-equal-4
-add-if-equal-4 c = search needs
-
-if-equal-requires-6 : tie.Need-if-equal-requires-6
-if-equal-requires-6 c κs = search needs
-
-put-three-requires-5 : tie.Need-put-three-requires-5
-unfolding conditionLength
-put-three-requires-5 c κs =
-    let n = rw (c .before .before .before .before .before .before .enum-told6 .given .1) at (c .before .before .before .before .before .before .before .before .before .before .before .pre .1) in
-    omega arith
-
-enum-told-7 : tie.Need-enum-told-7
-enum-told-7 c = search needs
-
-if-equal-requires-7 : tie.Need-if-equal-requires-7
-if-equal-requires-7 c κs = search needs
-
-put-two-requires-2 : tie.Need-put-two-requires-2
-unfolding conditionLength
-put-two-requires-2 c κs =
-    let n = rw (c .before .before .enum-told7 .given .1) at (c .before .before .before .before .before .before .before .pre .1) in
-    omega arith
+sub-result : tie.Need-sub-result
+unfolding highCode
+sub-result c = let room = rw (c .before .before .before .before .if1 .taken) at (c .before .before .before .before .before .before .before .before .before .before .before .before .before .before .before .before .pre .2) in omega arith
 
 same-length : tie.Need-same-length
 same-length c = search needs
 
 returns : tie.Need-returns
-unfolding highPart highTests
+unfolding highCode
 returns c =
-    rw (c .before .before .before .before .before .enum-told .given .1) (rw (c .before .before .before .if-equal .ensures, c .before .before .before .before .before .before .before .high .ensures, c .before .before .before .before .before .before .before .before .load-word .ensures) at (c .before .before .put-two .ensures))
+    let room = rw (c .before .before .before .before .if1 .taken) at (c .before .before .before .before .before .before .before .before .before .before .before .before .before .before .before .before .pre .2) in
+    rw (c .before .before .before .before .if1 .taken) (put-at (omega arith) (rw (c .before .before .put3 .ensures, c .before .before .before .before .before .before .before .put2 .ensures, c .before .before .before .before .before .before .before .before .if-equal .ensures, c .before .before .before .before .before .before .before .before .before .before .before .before .put .ensures, c .before .before .before .before .before .before .before .before .before .before .before .before .before .if-greater .ensures) (put-in-front _ _ _ _ _ _ (omega arith) (omega (arith, c .before .before .before .before .before .before .before .before .before .before .before .before .before .before .before .before .pre .3)))))
+
+put-requires-4 : tie.Need-put-requires-4
+put-requires-4 c κs = let two = high-two (c .before .before .before .before .before .before .before .before .before .before .before .before .before .args .load) (c .before .before .before .before .before .before .before .before .before .before .before .before .before .args .v) (c .before .before .before .before .before .before .before .before .before .before .before .before .before .args .ordered) (c .before .before .before .before .before .before .before .before .before .before .before .before .before .args .t) (c .before .before .before .before .before .before .before .before .before .before .before .before .before .args .f) in omega (arith, c .before .before .before .before .before .before .before .before .before .before .before .before .before .pre)
 
 same-length-2 : tie.Need-same-length-2
 same-length-2 c = search needs
 
 returns-2 : tie.Need-returns-2
-unfolding highPart highTests
+unfolding highCode
 returns-2 c =
-    rw (c .before .before .before .before .before .before .enum-told2 .given .1) (rw (c .before .before .before .if-equal2 .ensures, c .before .before .before .before .if-greater .ensures, c .before .before .before .before .before .before .before .before .high .ensures, c .before .before .before .before .before .before .before .before .before .load-word .ensures) at (c .before .before .put-three .ensures))
-
-same-length-3 : tie.Need-same-length-3
-same-length-3 c = search needs
-
-returns-3 : tie.Need-returns-3
-unfolding highPart highTests
-returns-3 c =
-    rw (c .before .before .before .before .before .before .enum-told3 .given .1) (rw (c .before .before .before .if-equal3 .ensures, c .before .before .before .before .if-greater2 .ensures, c .before .before .before .before .before .before .before .before .high .ensures, c .before .before .before .before .before .before .before .before .before .load-word .ensures) at (c .before .before .put-three2 .ensures))
-
-same-length-4 : tie.Need-same-length-4
-same-length-4 c = search needs
-
-returns-4 : tie.Need-returns-4
-unfolding highPart highTests
-returns-4 c =
-    rw (c .before .before .before .before .before .before .enum-told4 .given .1) (rw (c .before .before .before .if-equal4 .ensures, c .before .before .before .before .if-greater3 .ensures, c .before .before .before .before .before .before .before .before .high .ensures, c .before .before .before .before .before .before .before .before .before .load-word .ensures) at (c .before .before .put-three3 .ensures))
-
-same-length-5 : tie.Need-same-length-5
-same-length-5 c = search needs
-
-returns-5 : tie.Need-returns-5
-unfolding highPart highTests
-returns-5 c =
-    rw (c .before .before .before .before .before .before .enum-told5 .given .1) (rw (c .before .before .before .if-equal5 .ensures, c .before .before .before .before .if-greater4 .ensures, c .before .before .before .before .before .before .before .before .high .ensures, c .before .before .before .before .before .before .before .before .before .load-word .ensures) at (c .before .before .put-three4 .ensures))
-
-same-length-6 : tie.Need-same-length-6
-same-length-6 c = search needs
-
-returns-6 : tie.Need-returns-6
-unfolding highPart highTests
-returns-6 c =
-    rw (c .before .before .before .before .before .before .before .before .before .enum-told6 .given .1) (rw (c .before .before .before .if-equal6 .ensures, c .before .before .before .before .high3 .ensures, c .before .before .before .before .before .before .mask-by .ensures, c .before .before .before .before .before .before .before .high2 .ensures, c .before .before .before .before .before .before .before .before .before .before .before .before .load-word .ensures) at (c .before .before .put-three5 .ensures))
-
-same-length-7 : tie.Need-same-length-7
-same-length-7 c = search needs
-
-returns-7 : tie.Need-returns-7
-unfolding highPart highTests
-returns-7 c =
-    rw (c .before .before .before .before .before .enum-told7 .given .1) (rw (c .before .before .before .if-equal7 .ensures, c .before .before .before .before .before .before .before .high .ensures, c .before .before .before .before .before .before .before .before .load-word .ensures) at (c .before .before .put-two2 .ensures))
+    let room = rw (c .before .before .before .before .if1 .left) at (c .before .before .before .before .before .before .before .before .before .before .before .before .before .before .before .before .pre .2) in
+    rw (c .before .before .before .before .if1 .left) (put-at (omega arith) (rw (c .before .before .put4 .ensures, c .before .before .before .before .before .before .before .put2 .ensures, c .before .before .before .before .before .before .before .before .if-equal .ensures, c .before .before .before .before .before .before .before .before .before .before .before .before .put .ensures, c .before .before .before .before .before .before .before .before .before .before .before .before .before .if-greater .ensures) (put-over _ _ _ _ _ (omega (arith, c .before .before .before .before .before .before .before .before .before .before .before .before .before .before .before .before .pre .3)))))
 
 pub put-high-spec : {M : Type 1} → statement M
 put-high-spec =
     tie.close
     (tie.spec
-    load-word-requires
-    high-requires
-    enum-told
+    sub-at
+    add-if-greater
+    if-greater-requires
+    put-requires
+    add-put
     add-if-equal
     if-equal-requires
-    put-two-requires
-    enum-told-2
-    if-greater-requires
-    add-if-equal-2
-    if-equal-requires-2
-    put-three-requires
-    enum-told-3
-    if-greater-requires-2
-    add-if-equal-3
-    if-equal-requires-3
-    put-three-requires-2
-    enum-told-4
-    add-if-greater
-    if-greater-requires-3
-    if-equal-requires-4
-    put-three-requires-3
-    enum-told-5
-    add-if-greater-2
-    if-greater-requires-4
-    if-equal-requires-5
-    put-three-requires-4
-    enum-told-6
-    high-requires-2
-    mask-by-requires
-    high-requires-3
-    add-if-equal-4
-    if-equal-requires-6
-    put-three-requires-5
-    enum-told-7
-    if-equal-requires-7
-    put-two-requires-2
+    put-requires-2
+    sub-put
+    put-requires-3
+    sub-result
     same-length
     returns
+    put-requires-4
     same-length-2
-    returns-2
-    same-length-3
-    returns-3
-    same-length-4
-    returns-4
-    same-length-5
-    returns-5
-    same-length-6
-    returns-6
-    same-length-7
-    returns-7)
+    returns-2)

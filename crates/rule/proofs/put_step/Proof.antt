@@ -3,7 +3,7 @@ use borrow.Author.Needs.{needs}
 use native.Mathlib.Omega.{arith}
 use Rattle.definitions.specs.Emitted.{near}
 use Rattle.bpf.proofs.Buffer.{put-both}
-use Rattle.condition.proofs.Lengths.{condition-short}
+use Rattle.condition.proofs.Shapes.{condition-short}
 use Rattle.rule.proofs.Rules.{near-small, step-is, step-length, step-distance}
 use Rattle.rule.proofs.put_step.Statement.{statement}
 use Rattle.rule.proofs.put_step.Tie as tie
