@@ -40,8 +40,7 @@ abbrev pub fitsWidth : Condition → Bool
 fitsWidth q = seenWhole (q .width) (q .value) && seenWhole (q .width) (q .mask)
 
 abbrev pub hasConditions : Rule → Bool
-hasConditions [] = false
-hasConditions (q ∷ qs) = true
+hasConditions qs = not (eqb (length qs) 0)
 
 -- ---- a fault: its number, and its entry, rule and condition, counted from 0
 
@@ -75,8 +74,12 @@ conditionFaults e r c q =
     unless (indexTaken q) (fault 5 e r c)
     ++ unless (fitsWidth q) (fault 8 e r c)
 
+-- of a rule with so many conditions
+unfoldable pub countFaults : ℕ → ℕ → ℕ → List Fault
+countFaults e r n = unless (not (eqb n 0)) (fault 4 e r nowhere)
+
 unfoldable pub ruleFaults : ℕ → ℕ → Rule → List Fault
-ruleFaults e r qs = unless (hasConditions qs) (fault 4 e r nowhere) ++ faultsOf (conditionFaults e r) 0 qs
+ruleFaults e r qs = countFaults e r (length qs) ++ faultsOf (conditionFaults e r) 0 qs
 
 -- those of the entries from the e-th on, of which the first may have this number at least
 unfoldable pub entriesFaults : ℕ → ℕ → List Entry → List Fault

@@ -12,7 +12,7 @@ use Rattle.definitions.specs.declared.Condition.{Condition}
 use Rattle.definitions.specs.declared.Fault.{Fault}
 use Rattle.definitions.specs.RuleSet.{Rule, Entry, RuleSet, withEntries, noRules, hasSecondTable, guarded}
 use Rattle.definitions.specs.Emitted.{stepCode, stepDistance}
-use Rattle.definitions.specs.Answer.{hasConditions, fault, nowhere, unless, faultsOf, conditionFaults, ruleFaults, entriesFaults, tooMany, firstWith, shortWith, tooLong, leastOf}
+use Rattle.definitions.specs.Answer.{fault, nowhere, unless, faultsOf, conditionFaults, countFaults, ruleFaults, entriesFaults, tooMany, firstWith, shortWith, tooLong, leastOf}
 use Rattle.theorems.specs.Length.{conditionsLength, ruleLength, bodyLength, entryLength, headLength, filterLength}
 use Rattle.theorems.specs.Length as lengths
 use Rattle.theorems.proofs.Lengths.{length-step, length-emitted}
@@ -42,15 +42,15 @@ module _ (e : ℕ) where
   rules-count i [] x = sym (add-zero (x .count))
   rules-count i (qs ∷ rs) x =
       rules-count (suc i) rs (tellRule e i qs x)
-      ∙ (let n = conditions-count e i 0 qs (conditionsStart (x .count + 3) (leastOf (x .fault) (unless (hasConditions qs) (fault 4 e i nowhere)))) in omega arith)
+      ∙ (let n = conditions-count e i 0 qs (conditionsStart (x .count + 3) (leastOf (x .fault) (countFaults e i (length qs)))) in omega arith)
 
   rules-fault : (i : ℕ) (rs : List Rule) (x : Sum) → tells (tellRule e) i rs x .fault ≡ leastOf (x .fault) (faultsOf (ruleFaults e) i rs)
   unfolding tells tellRule faultsOf ruleFaults leastOf
   rules-fault i [] x = refl
   rules-fault i (qs ∷ rs) x =
-      let empty = leastOf (x .fault) (unless (hasConditions qs) (fault 4 e i nowhere)) in
+      let counted = leastOf (x .fault) (countFaults e i (length qs)) in
       rules-fault (suc i) rs (tellRule e i qs x)
-      ∙ rw (conditions-fault e i 0 qs (conditionsStart (x .count + 3) empty), least-append (x .fault) (ruleFaults e i qs) (faultsOf (ruleFaults e) (suc i) rs), least-append (x .fault) (unless (hasConditions qs) (fault 4 e i nowhere)) (faultsOf (conditionFaults e i) 0 qs))
+      ∙ rw (conditions-fault e i 0 qs (conditionsStart (x .count + 3) counted), least-append (x .fault) (ruleFaults e i qs) (faultsOf (ruleFaults e) (suc i) rs), least-append (x .fault) (countFaults e i (length qs)) (faultsOf (conditionFaults e i) 0 qs))
 
 -- ---- entries
 

@@ -16,7 +16,7 @@ use Rattle.definitions.specs.Word.{numberAt}
 use Rattle.definitions.specs.RuleSet.{Architecture, hasSecondTable, Rule, Entry, RuleSet, withEntries, noRules, guarded, isAction}
 use Rattle.definitions.specs.Emitted.{stepCode, stepDistance}
 use Rattle.definitions.specs.Format.{isThere, Read, then, check, times, nativeOf, architectureOf, conditionAt, ruleAt, entryAt, read}
-use Rattle.definitions.specs.Answer.{hasConditions, fault, nowhere, placeless, noFault, unless, faultsOf, conditionFaults, ruleFaults, entriesFaults, setFaults, tooMany, firstWith, shortWith, tooLong, leastOf, refusal}
+use Rattle.definitions.specs.Answer.{fault, nowhere, placeless, noFault, unless, faultsOf, conditionFaults, countFaults, ruleFaults, entriesFaults, setFaults, tooMany, firstWith, shortWith, tooLong, leastOf, refusal}
 use Rattle.theorems.specs.Length.{conditionsLength, ruleLength, bodyLength, entryLength, headLength, filterLength}
 use Rattle.theorems.specs.Length as lengths
 use Rattle.theorems.proofs.Lengths.{length-step, length-emitted}
@@ -77,24 +77,19 @@ broken-off size p q =
 
 -- ---- a rule, from its conditions
 
-filled-here : (s : List ℕ) (n at : ℕ) → hasConditions (conditionsHere s n at) ≡ not (eqb n 0)
-unfolding parts
-filled-here s zero at = refl
-filled-here s (suc n) at = rw (ne-eqb (suc n) 0 (omega arith))
-
 module _ (e r : ℕ) (x : Sum) where
   rule-by : (s : List ℕ) (n at : ℕ) (y : Option (Read Rule)) → times (conditionAt s) n at ≡ y
       → scanOf (told (tellRule e r) y x)
-      ≡ scanOf (told (tells (tellCondition e r) 0) y (conditionsStart (x .count + 3) (leastOf (x .fault) (unless (not (eqb n 0)) (fault 4 e r nowhere)))))
+      ≡ scanOf (told (tells (tellCondition e r) 0) y (conditionsStart (x .count + 3) (leastOf (x .fault) (countFaults e r n))))
   unfolding tellRule
   rule-by s n at none h = refl
   rule-by s n at (some z) h =
-      let filled : hasConditions (z .value) ≡ not (eqb n 0) = ap hasConditions (conditions-agree s n at h .0) ∙ filled-here s n at in
-      rw filled
+      let many : length (z .value) ≡ n = ap (λ (qs : Rule). length qs) (conditions-agree s n at h .0) ∙ parts-many (conditionHere s) (λ k. k + 24) n at in
+      rw many
 
   pub rule-from : (s : List ℕ) (at : ℕ) → at + 4 ≤ length s
       → scanOf (told (tellRule e r) (ruleAt s at) x)
-      ≡ scanOf (told (tells (tellCondition e r) 0) (times (conditionAt s) (numberAt 4 s at) (at + 4)) (conditionsStart (x .count + 3) (leastOf (x .fault) (unless (not (eqb (numberAt 4 s at) 0)) (fault 4 e r nowhere)))))
+      ≡ scanOf (told (tells (tellCondition e r) 0) (times (conditionAt s) (numberAt 4 s at) (at + 4)) (conditionsStart (x .count + 3) (leastOf (x .fault) (countFaults e r (numberAt 4 s at)))))
   unfolding ruleAt
   rule-from s at room = rw (le-leb (at + 4) (length s) room) (rule-by s (numberAt 4 s at) (at + 4) (times (conditionAt s) (numberAt 4 s at) (at + 4)) refl)
 

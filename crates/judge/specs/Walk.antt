@@ -14,7 +14,7 @@ use Rattle.definitions.specs.Word.{numberAt}
 use Rattle.definitions.specs.RuleSet.{Rule, Entry, RuleSet, noRules}
 use Rattle.definitions.specs.Emitted.{stepCode, stepDistance}
 use Rattle.definitions.specs.Format.{Read, times, entryAt}
-use Rattle.definitions.specs.Answer.{hasConditions, fault, nowhere, placeless, noFault, unless, conditionFaults, tooMany, tooLong, leastOf, refusal}
+use Rattle.definitions.specs.Answer.{fault, nowhere, placeless, noFault, unless, conditionFaults, countFaults, tooMany, tooLong, leastOf, refusal}
 use Rattle.theorems.specs.Length.{filterLength}
 use Rattle.judge.specs.declared.Scan.{Scan}
 use Rattle.judge.specs.declared.Turn.{Turn}
@@ -60,7 +60,7 @@ conditionsStart n f = sum n 1 0 f
 -- a rule has two jumps and a return
 unfoldable pub tellRule : ℕ → ℕ → Rule → Sum → Sum
 tellRule e r qs x =
-    let y : Sum = tells (tellCondition e r) 0 qs (conditionsStart (x .count + 3) (leastOf (x .fault) (unless (hasConditions qs) (fault 4 e r nowhere)))) in
+    let y : Sum = tells (tellCondition e r) 0 qs (conditionsStart (x .count + 3) (leastOf (x .fault) (countFaults e r (length qs)))) in
     total (y .count) (y .fault)
 
 -- an entry has a comparison and a return, and three instructions where it has no rules

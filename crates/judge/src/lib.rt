@@ -10,7 +10,7 @@ ghost use lib.ListN.{length};
 ghost use Rattle.definitions.specs.Word.{numberAt};
 ghost use Rattle.definitions.specs.Format.{times, conditionAt, ruleAt, read};
 ghost use Rattle.definitions.specs.Answer as answers;
-ghost use Rattle.definitions.specs.Answer.{fitsWidth, unless, conditionFaults, leastOf};
+ghost use Rattle.definitions.specs.Answer.{fitsWidth, unless, conditionFaults, countFaults, leastOf};
 ghost use Rattle.set_view.specs.Parts.{mostBytes};
 ghost use Rattle.judge.specs.Walk.{sum, total, tells, told, tellCondition, tellRule, conditionsStart, notThere, Scanned, plainThere, runFits, entriesTold, noTurn, Turned, turnOf, judged};
 use definitions::Condition;
@@ -173,6 +173,13 @@ fn scan_conditions(
     }
 }
 
+// The same of a rule with n conditions.
+fn count_fault(found: Fault, n: u32, entry: u32, rule: u32) -> Fault
+    ensures { λ r. ⌜ r ≡ leastOf found (countFaults entry rule n) ⌝ }
+{
+    note(found, n != 0, fault(4, entry, rule, NOWHERE))
+}
+
 fn scan_rule(s: &[u8], at: usize, entry: u32, rule: u32, before: usize, found: Fault) -> Scan
     requires { ⌜ (at ≤ length (now s)) × (length (now s) ≤ mostBytes) × (before ≤ at) ⌝ }
     ensures { λ r. ⌜ Scanned (told (tellRule entry rule) (ruleAt (now (s .entry)) at) (total before found)) (length (now (s .entry))) r ⌝ }
@@ -181,9 +188,9 @@ fn scan_rule(s: &[u8], at: usize, entry: u32, rule: u32, before: usize, found: F
         return not_there();
     }
     let n = bpf::u32_at(s, at);
-    let empty = note(found, n != 0, fault(4, entry, rule, NOWHERE));
+    let told = count_fault(found, n, entry, rule);
     // two jumps in front of the conditions, and the return behind them
-    scan_conditions(s, n, at + RULE_SIZE, entry, rule, before + 3, empty)
+    scan_conditions(s, n, at + RULE_SIZE, entry, rule, before + 3, told)
 }
 
 fn scan_rules(s: &[u8], n: u32, from: usize, entry: u32, before: usize, found: Fault) -> Scan

@@ -7,50 +7,39 @@ use mathlib.Core.Option.{Option, none, some}
 use Prim.Native.Nat.{ℕ, suc, _+_, _*_, _≤_, _<_}
 use native.Mathlib.Omega.{arith}
 use lib.Dec.{eqb, leb, ltb}
+use lib.ListN.{length}
 use borrow.Author.Tests.{eq-eqb, ne-eqb, eqb-true, leb-true, ltb-true, not-false, not-true}
 use Rattle.definitions.specs.declared.Condition.{Condition}
 use Rattle.definitions.specs.declared.Fault.{Fault}
 use Rattle.definitions.specs.declared.Answer.{Answer}
 use Rattle.definitions.specs.RuleSet.{Rule, Entry, RuleSet, oneOf}
 use Rattle.definitions.specs.Format.{read}
-use Rattle.definitions.specs.Answer.{indexTaken, fitsWidth, hasConditions, fault, nowhere, placeless, noFault, unless, faultsOf, conditionFaults, ruleFaults, entriesFaults, setFaults, tooMany, filterFaults, leastOf, refusal, answer, emittedSize, tooLong, answerBy, answerOf, ascending, rulesFilled, indicesTaken, widthsFit}
+use Rattle.definitions.specs.Answer.{fault, nowhere, placeless, noFault, unless, faultsOf, conditionFaults, countFaults, ruleFaults, entriesFaults, setFaults, tooMany, filterFaults, leastOf, refusal, answer, emittedSize, tooLong, answerBy, answerOf, ascending, rulesFilled, indicesTaken, widthsFit}
 use Rattle.theorems.proofs.Tests.{either-true}
-use Rattle.theorems.proofs.Faults.{least-append, least-none, least-first, has, firstOf, has-append, Among, among-append, among-unless, among-parts, Numbered, index-row, width-row, rule-row, empty-row, order-faults, rule-faults}
+use Rattle.theorems.proofs.Faults.{least-append, least-none, least-first, has, firstOf, has-append, Among, among-append, among-unless, among-parts, among-more, among-joined, lacks, Numbered, numbered, countCodes, conditionCodes, count-codes, condition-codes, index-row, width-row, rule-row, empty-row, order-faults, rule-faults}
 
 -- ---- which numbers there are
 
-or-true : (a : Bool) → (a || true) ≡ true
-or-true true = refl
-or-true false = refl
+abbrev pub ruleCodes : List ℕ
+ruleCodes = countCodes ++ conditionCodes
 
 abbrev pub entryCodes : List ℕ
-entryCodes = 2 ∷ 4 ∷ 5 ∷ 8 ∷ []
+entryCodes = 2 ∷ ruleCodes
 
 abbrev pub setCodes : List ℕ
 setCodes = 3 ∷ entryCodes
 
-condition-codes : (e r c : ℕ) (q : Condition) → Among entryCodes (conditionFaults e r c q)
-unfolding conditionFaults oneOf
-condition-codes e r c q =
-    among-append entryCodes (unless (indexTaken q) (fault 5 e r c)) (unless (fitsWidth q) (fault 8 e r c)) (among-unless entryCodes (indexTaken q) (fault 5 e r c) refl) (among-unless entryCodes (fitsWidth q) (fault 8 e r c) refl)
-
-rule-codes : (e r : ℕ) (qs : Rule) → Among entryCodes (ruleFaults e r qs)
-unfolding ruleFaults oneOf
+rule-codes : (e r : ℕ) (qs : Rule) → Among ruleCodes (ruleFaults e r qs)
+unfolding ruleFaults
 rule-codes e r qs =
-    among-append entryCodes (unless (hasConditions qs) (fault 4 e r nowhere)) (faultsOf (conditionFaults e r) 0 qs) (among-unless entryCodes (hasConditions qs) (fault 4 e r nowhere) refl) (among-parts entryCodes (conditionFaults e r) 0 qs (condition-codes e r))
+    among-joined countCodes conditionCodes (countFaults e r (length qs)) (faultsOf (conditionFaults e r) 0 qs) (count-codes e r (length qs)) (among-parts conditionCodes (conditionFaults e r) 0 qs (condition-codes e r))
 
 entries-codes : (l e : ℕ) (es : List Entry) → Among entryCodes (entriesFaults l e es)
 unfolding entriesFaults oneOf
 entries-codes l e [] = tt
 entries-codes l e (x ∷ xs) =
     among-append entryCodes (unless (leb l (x .number)) (fault 2 e nowhere nowhere)) (faultsOf (ruleFaults e) 0 (x .rules) ++ entriesFaults (x .number + 1) (suc e) xs) (among-unless entryCodes (leb l (x .number)) (fault 2 e nowhere nowhere) refl)
-    (among-append entryCodes (faultsOf (ruleFaults e) 0 (x .rules)) (entriesFaults (x .number + 1) (suc e) xs) (among-parts entryCodes (ruleFaults e) 0 (x .rules) (rule-codes e)) (entries-codes (x .number + 1) (suc e) xs))
-
--- with one number more
-among-more : (k : ℕ) (ks : List ℕ) (fs : List Fault) → Among ks fs → Among (k ∷ ks) fs
-unfolding oneOf
-among-more k ks [] a = tt
-among-more k ks (f ∷ fs) a = (rw (a .0) (or-true (eqb (f .code) k)), among-more k ks fs (a .1))
+    (among-append entryCodes (faultsOf (ruleFaults e) 0 (x .rules)) (entriesFaults (x .number + 1) (suc e) xs) (among-parts entryCodes (ruleFaults e) 0 (x .rules) (λ r qs. among-more 2 ruleCodes (ruleFaults e r qs) (rule-codes e r qs))) (entries-codes (x .number + 1) (suc e) xs))
 
 set-codes : (rs : RuleSet) → Among setCodes (setFaults rs)
 unfolding setFaults oneOf
@@ -62,18 +51,6 @@ pub filter-codes : (n long room : ℕ) → Among (6 ∷ 7 ∷ []) (filterFaults 
 unfolding filterFaults oneOf
 filter-codes n long room =
     among-append (6 ∷ 7 ∷ []) (unless (ltb n tooMany) (fault 6 long nowhere nowhere)) (unless (leb (8 * n) room) (placeless 7)) (among-unless (6 ∷ 7 ∷ []) (ltb n tooMany) (fault 6 long nowhere nowhere) refl) (among-unless (6 ∷ 7 ∷ []) (leb (8 * n) room) (placeless 7) refl)
-
-other : (ks : List ℕ) (a b : ℕ) → oneOf ks a ≡ true → oneOf ks b ≡ false → a ≡ b → ⊥
-other ks a b p q e = let z : _≡_ {A = ℕ} 0 1 = cc in omega arith
-
-pub numbered : (ks : List ℕ) (fs : List Fault) → oneOf ks 0 ≡ false → Among ks fs → Numbered fs
-numbered ks [] z a = tt
-numbered ks (f ∷ fs) z a = (let n = other ks (f .code) 0 (a .0) z in omega arith, numbered ks fs z (a .1))
-
-pub lacks : (ks : List ℕ) (fs : List Fault) (k : ℕ) → oneOf ks k ≡ false → Among ks fs → has k fs ≡ false
-unfolding has
-lacks ks [] k z a = refl
-lacks ks (f ∷ fs) k z a = rw (ne-eqb (f .code) k (other ks (f .code) k (a .0) z)) (lacks ks fs k z (a .1))
 
 pub set-lacks : (rs : RuleSet) (k : ℕ) → oneOf setCodes k ≡ false → has k (setFaults rs) ≡ false
 set-lacks rs k z = lacks setCodes (setFaults rs) k z (set-codes rs)
@@ -131,6 +108,7 @@ pub ascending-entries : (rs : RuleSet) → refusal rs .code ≡ 0 → ascending 
 ascending-entries rs e = passed rs 2 _ e (order-faults rs)
 
 pub indices-taken : (rs : RuleSet) → refusal rs .code ≡ 0 → indicesTaken rs ≡ true
+unfolding oneOf
 indices-taken rs e = passed rs 5 _ e (rule-faults rs (rule-row index-row refl) refl refl)
 
 -- a list that has none of its numbers is empty

@@ -14,7 +14,7 @@ use Rattle.definitions.specs.declared.Condition.{Condition}
 use Rattle.definitions.specs.declared.Fault.{Fault}
 use Rattle.definitions.specs.RuleSet.{Rule, Entry, RuleSet, oneOf}
 use Rattle.definitions.specs.Format.{Each}
-use Rattle.definitions.specs.Answer.{indexTaken, fitsWidth, hasConditions, fault, nowhere, placeless, noFault, unless, faultsOf, conditionFaults, ruleFaults, entriesFaults, setFaults, lesser, leastOf, all, ascending, rulesFilled, indicesTaken, widthsFit}
+use Rattle.definitions.specs.Answer.{indexTaken, fitsWidth, hasConditions, fault, nowhere, placeless, noFault, unless, faultsOf, conditionFaults, countFaults, ruleFaults, entriesFaults, setFaults, lesser, leastOf, all, ascending, rulesFilled, indicesTaken, widthsFit}
 
 -- ---- the least
 
@@ -82,9 +82,70 @@ module _ (ks : List ℕ) where
   among-parts f n [] h = tt
   among-parts f n (x ∷ xs) h = among-append (f n x) (faultsOf f (suc n) xs) (h n x) (among-parts f (suc n) xs h)
 
+other : (ks : List ℕ) (a b : ℕ) → oneOf ks a ≡ true → oneOf ks b ≡ false → a ≡ b → ⊥
+other ks a b p q e = let z : _≡_ {A = ℕ} 0 1 = cc in omega arith
+
+pub lacks : (ks : List ℕ) (fs : List Fault) (k : ℕ) → oneOf ks k ≡ false → Among ks fs → has k fs ≡ false
+unfolding has
+lacks ks [] k z a = refl
+lacks ks (f ∷ fs) k z a = rw (ne-eqb (f .code) k (other ks (f .code) k (a .0) z)) (lacks ks fs k z (a .1))
+
 -- none of the numbers is 0
 abbrev pub Numbered : List Fault → Type 0
 Numbered = Each (λ (f : Fault). 0 < f .code)
+
+pub numbered : (ks : List ℕ) (fs : List Fault) → oneOf ks 0 ≡ false → Among ks fs → Numbered fs
+numbered ks [] z a = tt
+numbered ks (f ∷ fs) z a = (let n = other ks (f .code) 0 (a .0) z in omega arith, numbered ks fs z (a .1))
+
+-- ---- which numbers there are
+
+or-true : (a : Bool) → (a || true) ≡ true
+or-true true = refl
+or-true false = refl
+
+-- with one number more
+pub among-more : (k : ℕ) (ks : List ℕ) (fs : List Fault) → Among ks fs → Among (k ∷ ks) fs
+unfolding oneOf
+among-more k ks [] a = tt
+among-more k ks (f ∷ fs) a = (rw (a .0) (or-true (eqb (f .code) k)), among-more k ks fs (a .1))
+
+one-append : (ks ls : List ℕ) (k : ℕ) → oneOf (ks ++ ls) k ≡ (oneOf ks k || oneOf ls k)
+unfolding oneOf
+one-append [] ls k = refl
+one-append (x ∷ ks) ls k = rw (one-append ks ls k, or-assoc (eqb k x) (oneOf ks k) (oneOf ls k))
+
+-- of two lists the numbers of both
+pub among-joined : (ks ls : List ℕ) (xs ys : List Fault) → Among ks xs → Among ls ys → Among (ks ++ ls) (xs ++ ys)
+among-joined ks ls [] ys a b = go ys b
+  where
+    go : (ys : List Fault) → Among ls ys → Among (ks ++ ls) ys
+    go [] b = tt
+    go (y ∷ ys) b = (rw (one-append ks ls (y .code), b .0) (or-true (oneOf ks (y .code))), go ys (b .1))
+among-joined ks ls (x ∷ xs) ys a b = (rw (one-append ks ls (x .code), a .0), among-joined ks ls xs ys (a .1) b)
+
+abbrev pub conditionCodes : List ℕ
+conditionCodes = 5 ∷ 8 ∷ []
+
+pub condition-codes : (e r c : ℕ) (q : Condition) → Among conditionCodes (conditionFaults e r c q)
+unfolding conditionFaults oneOf
+condition-codes e r c q =
+    among-append conditionCodes (unless (indexTaken q) (fault 5 e r c)) (unless (fitsWidth q) (fault 8 e r c)) (among-unless conditionCodes (indexTaken q) (fault 5 e r c) refl) (among-unless conditionCodes (fitsWidth q) (fault 8 e r c) refl)
+
+abbrev pub countCodes : List ℕ
+countCodes = 4 ∷ []
+
+pub count-codes : (e r n : ℕ) → Among countCodes (countFaults e r n)
+unfolding countFaults oneOf
+count-codes e r n = among-unless countCodes (not (eqb n 0)) (fault 4 e r nowhere) refl
+
+module _ (k : ℕ) (e r : ℕ) where
+  no-count : (n : ℕ) → oneOf countCodes k ≡ false → has k (countFaults e r n) ≡ false
+  no-count n h = lacks countCodes (countFaults e r n) k h (count-codes e r n)
+
+  no-condition : (qs : Rule) → oneOf conditionCodes k ≡ false → has k (faultsOf (conditionFaults e r) 0 qs) ≡ false
+  no-condition qs h =
+      lacks conditionCodes (faultsOf (conditionFaults e r) 0 qs) k h (among-parts conditionCodes (conditionFaults e r) 0 qs (condition-codes e r))
 
 least-more : (a f : Fault) (fs : List Fault) → leastOf a (f ∷ fs) ≡ leastOf (cond (eqb (a .code) 0 || ltb (f .code) (a .code)) f a) fs
 unfolding leastOf lesser
@@ -210,7 +271,35 @@ module _ (k : ℕ) where
   unfolding unless firstOf
   own-first t f ys h e = rw (e, h)
 
--- one by itself
+  -- one by itself
+  pub other-alone : (t : Bool) (f : Fault) → eqb (f .code) k ≡ false → has k (unless t f) ≡ false
+  unfolding unless has
+  other-alone true f h = refl
+  other-alone false f h = rw h
+
+  pub own-alone : (t : Bool) (f : Fault) → eqb (f .code) k ≡ true → has k (unless t f) ≡ not t
+  unfolding unless has
+  own-alone true f h = refl
+  own-alone false f h = rw h
+
+  pub own-last : (t : Bool) (f : Fault) → eqb (f .code) k ≡ true → t ≡ false → firstOf k (unless t f) ≡ f
+  unfolding unless firstOf
+  own-last t f h e = rw (e, h)
+
+  -- a list of other numbers in front changes nothing
+  pub skip-had : (xs ys : List Fault) → has k xs ≡ false → has k (xs ++ ys) ≡ has k ys
+  skip-had xs ys h = rw (has-append k xs ys, h)
+
+  pub skip-first : (xs ys : List Fault) → has k xs ≡ false → firstOf k (xs ++ ys) ≡ firstOf k ys
+  skip-first xs ys h = rw (first-append k xs ys, h)
+
+  -- nor does one behind
+  pub front-had : (xs ys : List Fault) → has k ys ≡ false → has k (xs ++ ys) ≡ has k xs
+  front-had xs ys h = rw (has-append k xs ys, h) (or-false (has k xs))
+
+  pub front-first : (xs ys : List Fault) → has k xs ≡ true → firstOf k (xs ++ ys) ≡ firstOf k xs
+  front-first xs ys h = rw (first-append k xs ys, h)
+
 pub alone-first : (t : Bool) (f : Fault) → has (f .code) (unless t f) ≡ true → firstOf (f .code) (unless t f) ≡ f
 unfolding unless has firstOf
 alone-first true f h = absurd (let z : _≡_ {A = ℕ} 0 1 = cc in omega arith)
@@ -224,41 +313,18 @@ spotted k e r c q = fault k e r c
 abbrev pub ConditionRow : ℕ → (Condition → Bool) → Type 0
 ConditionRow k test = (e r : ℕ) → Row k (conditionFaults e r) test (spotted k e r)
 
-two-had : (k : ℕ) (a b : Bool) (x y : Fault) → has k (unless a x ++ unless b y) ≡ ((not a && eqb (x .code) k) || (not b && eqb (y .code) k))
-unfolding unless has
-two-had k true true x y = refl
-two-had k true false x y = or-false (eqb (y .code) k)
-two-had k false true x y = refl
-two-had k false false x y = rw (or-false (eqb (y .code) k))
-
-and-true : (a : Bool) → (not a && true) ≡ not a
-and-true true = refl
-and-true false = refl
-
-and-false : (a : Bool) → (a && false) ≡ false
-and-false true = refl
-and-false false = refl
-
 pub index-row : ConditionRow 5 indexTaken
 unfolding conditionFaults
 index-row e r = record {
-  had = λ c q. rw (two-had 5 (indexTaken q) (fitsWidth q) _ _, and-true (indexTaken q), and-false (not (fitsWidth q)), or-false (not (indexTaken q)));
+  had = λ c q. own-had 5 (indexTaken q) _ _ refl (other-alone 5 (fitsWidth q) (fault 8 e r c) refl);
   first = λ c q h. own-first 5 (indexTaken q) _ _ refl h;
 }
 
 pub width-row : ConditionRow 8 fitsWidth
-unfolding conditionFaults firstOf
-width-row e r = record {
-  had = λ c q. rw (two-had 8 (indexTaken q) (fitsWidth q) _ _, and-false (not (indexTaken q)), and-true (fitsWidth q));
-  first = λ c q h. rw (other-first 8 (indexTaken q) (fault 5 e r c) (unless (fitsWidth q) (fault 8 e r c)) refl) (unfold unless in rw h);
-}
-
--- a number that conditions do not have
-no-row : (k : ℕ) → eqb 5 k ≡ false → eqb 8 k ≡ false → ConditionRow k (λ q. true)
 unfolding conditionFaults
-no-row k five eight e r = record {
-  had = λ c q. rw (two-had k (indexTaken q) (fitsWidth q) _ _, five, eight, and-false (not (indexTaken q)), and-false (not (fitsWidth q)));
-  first = λ c q h. cc;
+width-row e r = record {
+  had = λ c q. other-had 8 (indexTaken q) (fault 5 e r c) _ refl ∙ own-alone 8 (fitsWidth q) (fault 8 e r c) refl;
+  first = λ c q h. other-first 8 (indexTaken q) (fault 5 e r c) _ refl ∙ own-last 8 (fitsWidth q) (fault 8 e r c) refl h;
 }
 
 -- ---- of rules
@@ -266,32 +332,31 @@ no-row k five eight e r = record {
 abbrev pub spottedIn : ℕ → (Condition → Bool) → ℕ → ℕ → Rule → Fault
 spottedIn k test e r qs = fault k e r (firstFailing test qs)
 
-module _ {k : ℕ} {test : Condition → Bool} (row : ConditionRow k test) (other : eqb 4 k ≡ false) where
+module _ {k : ℕ} {test : Condition → Bool} (row : ConditionRow k test) (other : oneOf countCodes k ≡ false) where
   pub rule-row : (e : ℕ) → Row k (ruleFaults e) (all test) (spottedIn k test e)
   unfolding ruleFaults
   rule-row e = record {
-    had = λ r qs. rw (other-had k (hasConditions qs) (fault 4 e r nowhere) (faultsOf (conditionFaults e r) 0 qs) other) (parts-had (row e r) 0 qs);
-    first = λ r qs h. rw (other-first k (hasConditions qs) (fault 4 e r nowhere) (faultsOf (conditionFaults e r) 0 qs) other) (last r qs h);
+    had = λ r qs. skip-had k (countFaults e r (length qs)) (faultsOf (conditionFaults e r) 0 qs) (no-count k e r (length qs) other) ∙ parts-had (row e r) 0 qs;
+    first = λ r qs h. skip-first k (countFaults e r (length qs)) (faultsOf (conditionFaults e r) 0 qs) (no-count k e r (length qs) other) ∙ last r qs h;
   }
     where
       last : (r : ℕ) (qs : Rule) → all test qs ≡ false → firstOf k (faultsOf (conditionFaults e r) 0 qs) ≡ fault k e r (firstFailing test qs)
       last r [] h = absurd (let z : _≡_ {A = ℕ} 0 1 = cc in omega arith)
       last r (q ∷ qs) h = parts-first (row e r) 0 (q ∷ qs) q h ∙ rw (zero-add (firstFailing test (q ∷ qs)))
 
-all-pass : {A : Type 0} (xs : List A) → all (λ (x : A). true) xs ≡ true
-all-pass [] = refl
-all-pass (x ∷ xs) = all-pass xs
-
--- the rules of a set that has no fault of a number in its conditions
-no-rule : (k : ℕ) → eqb 5 k ≡ false → eqb 8 k ≡ false → (e r : ℕ) (qs : Rule) → has k (faultsOf (conditionFaults e r) 0 qs) ≡ false
-no-rule k five eight e r qs = rw (parts-had (no-row k five eight e r) 0 qs, all-pass qs)
+-- a fault of how many conditions there are
+pub count-row : {k : ℕ} {test : ℕ → Bool} → oneOf conditionCodes k ≡ false → ((e r n : ℕ) → has k (countFaults e r n) ≡ not (test n))
+    → ((e r n : ℕ) → test n ≡ false → firstOf k (countFaults e r n) ≡ fault k e r nowhere)
+    → (e : ℕ) → Row k (ruleFaults e) (λ (qs : Rule). test (length qs)) (λ r qs. fault k e r nowhere)
+unfolding ruleFaults
+count-row {k} {test} other had first e = record {
+  had = λ r qs. front-had k (countFaults e r (length qs)) (faultsOf (conditionFaults e r) 0 qs) (no-condition k e r qs other) ∙ had e r (length qs);
+  first = λ r qs h. front-first k (countFaults e r (length qs)) (faultsOf (conditionFaults e r) 0 qs) (had e r (length qs) ∙ rw h) ∙ first e r (length qs) h;
+}
 
 pub empty-row : (e : ℕ) → Row 4 (ruleFaults e) hasConditions (λ r qs. fault 4 e r nowhere)
-unfolding ruleFaults
-empty-row e = record {
-  had = λ r qs. own-had 4 (hasConditions qs) _ _ refl (no-rule 4 refl refl e r qs);
-  first = λ r qs h. own-first 4 (hasConditions qs) _ _ refl h;
-}
+unfolding countFaults oneOf
+empty-row = count-row {test = λ n. not (eqb n 0)} refl (λ e r n. own-alone 4 (not (eqb n 0)) (fault 4 e r nowhere) refl) (λ e r n h. own-last 4 (not (eqb n 0)) (fault 4 e r nowhere) refl h)
 
 -- ---- of entries
 
@@ -335,10 +400,10 @@ firstBelow least [] = 0
 firstBelow least (e ∷ es) = cond (leb least (e .number)) (suc (firstBelow (e .number + 1) es)) 0
 
 rules-unordered : (e r : ℕ) (rs : List Rule) → has 2 (faultsOf (ruleFaults e) r rs) ≡ false
-unfolding faultsOf ruleFaults has
+unfolding faultsOf ruleFaults has oneOf
 rules-unordered e r [] = refl
 rules-unordered e r (q ∷ rs) =
-    rw (has-append 2 (ruleFaults e r q) (faultsOf (ruleFaults e) (suc r) rs), other-had 2 (hasConditions q) (fault 4 e r nowhere) (faultsOf (conditionFaults e r) 0 q) refl, no-rule 2 refl refl e r q)
+    rw (has-append 2 (ruleFaults e r q) (faultsOf (ruleFaults e) (suc r) rs), skip-had 2 (countFaults e r (length q)) (faultsOf (conditionFaults e r) 0 q) (no-count 2 e r (length q) refl), no-condition 2 e r q refl)
     (rules-unordered e (suc r) rs)
 
 no-order : (e : ℕ) (x : Entry) → has 2 (entryFaults e x) ≡ false

@@ -23,8 +23,8 @@ use Rattle.theorems.specs.Length.{filterLength}
 use Rattle.theorems.proofs.Tests.{either-true}
 use Rattle.theorems.proofs.Heads.{head-few}
 use Rattle.theorems.proofs.Lengths.{length-emitted}
-use Rattle.theorems.proofs.Faults.{has, firstOf, has-append, first-append, among-unless, own-had, own-first, other-had, other-first, alone-first, firstFailing, firstBelow, spottedIn, spottedRule, RuleRow, index-row, width-row, rule-row, empty-row, order-faults, order-place, rule-faults, rule-place}
-use Rattle.theorems.proofs.Answers.{filter-codes, lacks, set-lacks, entries-lack, answered-by, answered-none, answered-not-one}
+use Rattle.theorems.proofs.Faults.{lacks, has, firstOf, has-append, first-append, among-unless, own-had, own-first, other-had, other-first, alone-first, firstFailing, firstBelow, spottedIn, spottedRule, RuleRow, index-row, width-row, rule-row, empty-row, order-faults, order-place, rule-faults, rule-place}
+use Rattle.theorems.proofs.Answers.{filter-codes, set-lacks, entries-lack, answered-by, answered-none, answered-not-one}
 
 -- ---- of lists
 

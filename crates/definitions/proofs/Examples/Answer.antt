@@ -14,7 +14,7 @@ use Rattle.definitions.specs.declared.Answer.{Answer}
 use Rattle.definitions.specs.Word.{bytesOf, numberOf, numberAt}
 use Rattle.definitions.specs.RuleSet.{x86-64, aarch64, architectureWord, oneOf, isAction, Rule, Entry, RuleSet, guarded, hasSecondTable}
 use Rattle.definitions.specs.Format.{architectureNumber, widthNumber, operatorNumber, encodeCondition, encodeRule, encodeEntry, encode, architectureOf, widthOf, operatorOf, maskTaken, times, conditionAt, ruleAt, entryAt, read, unflagged, nativeOf, headNumber}
-use Rattle.definitions.specs.Answer.{all, fault, nowhere, placeless, noFault, unless, faultsOf, conditionFaults, ruleFaults, entriesFaults, setFaults, filterFaults, firstWith, shortWith, lesser, leastOf, answer, answerBy, answerOf}
+use Rattle.definitions.specs.Answer.{all, fault, nowhere, placeless, noFault, unless, faultsOf, conditionFaults, countFaults, ruleFaults, entriesFaults, setFaults, filterFaults, firstWith, shortWith, lesser, leastOf, answer, answerBy, answerOf}
 use Rattle.definitions.specs.Emitted.{highTests, lowTests, highPart, lowPart, conditionCode, helpers, near, stepCode, stepDistance, conditionsCode, distance, ruleCode, ruleBody, bodyCode, entryCode, numbersCode, emitted, headCode, numberCode}
 use Rattle.definitions.proofs.Examples.RuleSet.{compared, allow, errno}
 
@@ -119,7 +119,7 @@ abbrev rowHolds : Row → Bool
 rowHolds r = let a = answerOf (r .bytes) (r .room) in eqb (a .code) (r .code) && eqb (a .count) (r .count)
 
 table-holds : all rowHolds table ≡ true
-unfolding answerOf answer leastOf lesser setFaults filterFaults entriesFaults ruleFaults conditionFaults faultsOf unless read entryAt ruleAt conditionAt times maskTaken operatorOf widthOf architectureOf unflagged nativeOf isAction oneOf numberAt numberOf encode encodeEntry encodeRule encodeCondition bytesOf architectureNumber headNumber widthNumber operatorNumber architectureWord emitted headCode numberCode guarded hasSecondTable numbersCode entryCode bodyCode ruleCode ruleBody conditionsCode distance stepCode stepDistance helpers near conditionCode highPart lowPart highTests lowTests
+unfolding answerOf answer leastOf lesser setFaults filterFaults entriesFaults ruleFaults countFaults conditionFaults faultsOf unless read entryAt ruleAt conditionAt times maskTaken operatorOf widthOf architectureOf unflagged nativeOf isAction oneOf numberAt numberOf encode encodeEntry encodeRule encodeCondition bytesOf architectureNumber headNumber widthNumber operatorNumber architectureWord emitted headCode numberCode guarded hasSecondTable numbersCode entryCode bodyCode ruleCode ruleBody conditionsCode distance stepCode stepDistance helpers near conditionCode highPart lowPart highTests lowTests
 table-holds = refl
 
 -- 6: the limit itself, by the number of instructions alone
@@ -179,7 +179,7 @@ faultyHolds w =
     sameFault (leastOf noFault (setFaults (record { architecture = x86-64; nativeOnly = false; mismatch = errno 1; onMatch = allow; entries = w .entries }))) (w .refused)
 
 places : all faultyHolds faults ≡ true
-unfolding leastOf lesser setFaults entriesFaults ruleFaults conditionFaults faultsOf unless
+unfolding leastOf lesser setFaults entriesFaults ruleFaults countFaults conditionFaults faultsOf unless
 places = refl
 
 -- 4,096 instructions are short enough, one more is not: five for each number, five around them, eleven and twelve for the last

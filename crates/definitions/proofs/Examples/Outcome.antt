@@ -13,7 +13,7 @@ use Rattle.definitions.specs.Kernel.{constantTaken, operandTaken, takenA
 use Rattle.definitions.specs.Emitted.{load, ifEqual, return}
 use Rattle.definitions.specs.RuleSet.{x86-64, architectureWord, Rule, Entry, killProcess, oneOf, isAction, test, holds, allHold, anyHolds, matches, listed, meaning, guarded, hasSecondTable, inSecondTable}
 use Rattle.definitions.specs.Format.{architectureNumber, widthNumber, operatorNumber, encodeCondition, encodeRule, encodeEntry, encode, architectureOf, widthOf, operatorOf, maskTaken, times, conditionAt, ruleAt, entryAt, read, unflagged, nativeOf, headNumber}
-use Rattle.definitions.specs.Answer.{all, unless, faultsOf, conditionFaults, ruleFaults, entriesFaults, setFaults, lesser, leastOf}
+use Rattle.definitions.specs.Answer.{all, unless, faultsOf, conditionFaults, countFaults, ruleFaults, entriesFaults, setFaults, lesser, leastOf}
 use Rattle.definitions.proofs.Examples.RuleSet.{compared, allow, errno}
 use Rattle.definitions.specs.Outcome.{outcomeOf, decidedOf}
 
@@ -84,5 +84,5 @@ abbrev rowHolds : Row → Bool
 rowHolds r = let o = decidedOf (r .set) (r .asked) in eqb (o .code) (r .code) && eqb (o .action) (r .action) && eqb (o .steps) 0
 
 decisions : all rowHolds table ≡ true
-unfolding decidedOf leastOf lesser setFaults entriesFaults ruleFaults conditionFaults faultsOf unless read entryAt ruleAt conditionAt times maskTaken operatorOf widthOf architectureOf unflagged nativeOf isAction oneOf numberAt numberOf encode encodeEntry encodeRule encodeCondition bytesOf architectureNumber headNumber widthNumber operatorNumber architectureWord meaning guarded hasSecondTable inSecondTable listed matches anyHolds allHold holds test
+unfolding decidedOf leastOf lesser setFaults entriesFaults ruleFaults countFaults conditionFaults faultsOf unless read entryAt ruleAt conditionAt times maskTaken operatorOf widthOf architectureOf unflagged nativeOf isAction oneOf numberAt numberOf encode encodeEntry encodeRule encodeCondition bytesOf architectureNumber headNumber widthNumber operatorNumber architectureWord meaning guarded hasSecondTable inSecondTable listed matches anyHolds allHold holds test
 decisions = refl

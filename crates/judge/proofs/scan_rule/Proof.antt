@@ -17,11 +17,8 @@ returns c = broken-off _ (c .not-there .ensures) (rw (rule-short _ _ (c .before 
 u32-at-requires : tie.Need-u32-at-requires
 u32-at-requires c κs = search needs
 
-fault-requires : tie.Need-fault-requires
-fault-requires c κs = search needs
-
-note-requires : tie.Need-note-requires
-note-requires c κs = search needs
+count-fault-requires : tie.Need-count-fault-requires
+count-fault-requires c κs = search needs
 
 add-scan-conditions : tie.Need-add-scan-conditions
 add-scan-conditions c = search needs
@@ -35,7 +32,7 @@ scan-conditions-requires c κs = search needs
 returns-2 : tie.Need-returns-2
 returns-2 c =
     record {
-      same = c .scan-conditions .ensures .same ∙ rw (c .before .note .ensures, c .before .before .fault .ensures, c .before .before .before .u32-at .ensures) (sym (rule-from _ _ _ _ _ (c .before .before .before .before .if1 .left)));
+      same = c .scan-conditions .ensures .same ∙ rw (c .before .count-fault .ensures, c .before .before .u32-at .ensures) (sym (rule-from _ _ _ _ _ (c .before .before .before .if1 .left)));
       inside = c .scan-conditions .ensures .inside;
     }
 
@@ -47,8 +44,7 @@ scan-rule-spec =
     not-there-requires
     returns
     u32-at-requires
-    fault-requires
-    note-requires
+    count-fault-requires
     add-scan-conditions
     add-scan-conditions-2
     scan-conditions-requires
