@@ -182,10 +182,15 @@ enum {
     CALLFILTER_NOT_A_CALL = 9 /* the call is not 64 bytes */
 };
 
-/* action: the word that is returned; steps: of run, how many instructions were executed; both 0 unless the code is 0 */
+/* action: the word that is returned; steps: how many instructions were executed; both 0 unless the code is 0 */
 typedef struct {
     uint32_t code, action, steps;
 } callfilter_outcome;
+
+/* action: 0 unless the code is 0; entry, rule, condition: the place of the fault, as in callfilter_answer */
+typedef struct {
+    uint32_t code, action, entry, rule, condition;
+} callfilter_decision;
 
 /* Whether the kernel's checks, as the definitions have them, pass on the filter.
  * Any bytes may be offered, made by whomever. */
@@ -196,8 +201,8 @@ bool callfilter_accepts(const uint8_t *filter, size_t filter_len);
 callfilter_outcome callfilter_run(const uint8_t *filter, size_t filter_len, const uint8_t *call, size_t call_len);
 
 /* What the set means for a call, straight from the bytes of both: where the set compiles, its filter returns this action for the call.
- * A set in which compiling refuses something (1 to 5, 8) gets that number; one whose filter is too long has its meaning all the same. */
-callfilter_outcome callfilter_decide(const uint8_t *set, size_t set_len, const uint8_t *call, size_t call_len);
+ * A set in which compiling refuses something (1 to 5, 8) gets that number and place; one whose filter is too long has its meaning. */
+callfilter_decision callfilter_decide(const uint8_t *set, size_t set_len, const uint8_t *call, size_t call_len);
 
 #ifdef __cplusplus
 }

@@ -126,6 +126,13 @@ static bool answered(callfilter_answer given, uint32_t code, uint32_t count, uin
     return given.code == code && given.count == count && given.entry == entry && given.rule == rule && given.condition == condition;
 }
 
+/* as compiling refuses a set, deciding does, whatever the call */
+static bool undecided(const uint8_t *set, size_t size, uint32_t code, uint32_t entry, uint32_t rule, uint32_t condition) {
+    static const uint8_t call[CALLFILTER_CALL_SIZE] = {0};
+    callfilter_decision given = callfilter_decide(set, size, call, sizeof call);
+    return given.code == code && given.action == 0 && given.entry == entry && given.rule == rule && given.condition == condition;
+}
+
 typedef callfilter_answer (*form)(const uint8_t *set, size_t set_len, uint8_t *out, size_t out_len);
 
 /* whether the buffer is as it was filled, from an end on */
@@ -161,10 +168,12 @@ static void compiled(form compile, uint32_t count) {
         changed[faults[at].at] = faults[at].byte;
         answer = compile(changed, sizeof changed, filter, sizeof filter);
         CHECK(answered(answer, faults[at].code, 0, faults[at].entry, faults[at].rule, faults[at].condition));
+        CHECK(undecided(changed, sizeof changed, faults[at].code, faults[at].entry, faults[at].rule, faults[at].condition));
     }
     callfilter_writer writer = callfilter_start(changed, sizeof changed, CALLFILTER_AARCH64, CALLFILTER_LOG, CALLFILTER_LOG);
     answer = compile(changed, writer.end, filter, sizeof filter);
     CHECK(answered(answer, CALLFILTER_EQUAL_ACTIONS, 0, NOWHERE, NOWHERE, NOWHERE));
+    CHECK(undecided(changed, writer.end, CALLFILTER_EQUAL_ACTIONS, NOWHERE, NOWHERE, NOWHERE));
     CHECK(filter_kept_from(0));
 
     answer = compile(set, sizeof WORKED_SET, filter, sizeof filter);
@@ -184,7 +193,9 @@ static callfilter_answer on_arguments(const uint8_t index[6], bool empty, uint64
         writer = callfilter_add_condition(set, sizeof set, writer, index[at], CALLFILTER_DWORD, CALLFILTER_MASKED_EQ, 0, at < 3 ? 1 : mask);
     }
     CHECK(writer.code == CALLFILTER_WRITTEN);
-    return callfilter_compile(set, writer.end, filter, sizeof filter);
+    callfilter_answer answer = callfilter_compile(set, writer.end, filter, sizeof filter);
+    if (answer.code != CALLFILTER_COMPILED) CHECK(undecided(set, writer.end, answer.code, answer.entry, answer.rule, answer.condition));
+    return answer;
 }
 
 /* the first place counts, and the smallest code whatever its place */
@@ -244,9 +255,9 @@ static uint32_t meaning(uint8_t width, uint8_t comparison, uint64_t value, uint6
     put(call, 7, 4);
     put(call + 4, 0xc00000b7, 4);
     put(call + 16, argument, 8);
-    callfilter_outcome outcome = callfilter_decide(set, writer.end, call, sizeof call);
-    CHECK(outcome.code == CALLFILTER_RETURNED);
-    return outcome.action;
+    callfilter_decision decision = callfilter_decide(set, writer.end, call, sizeof call);
+    CHECK(decision.code == CALLFILTER_RETURNED);
+    return decision.action;
 }
 
 static void numbers(void) {
@@ -303,13 +314,14 @@ static void asked(void) {
         CHECK(outcome.code == CALLFILTER_RETURNED && outcome.action == calls[at].action && outcome.steps == calls[at].steps);
         outcome = callfilter_run(search, size_of_search, call, sizeof call);
         CHECK(outcome.code == CALLFILTER_RETURNED && outcome.action == calls[at].action && outcome.steps == calls[at].steps_of_search);
-        outcome = callfilter_decide(WORKED_SET, sizeof WORKED_SET, call, sizeof call);
-        CHECK(outcome.code == CALLFILTER_RETURNED && outcome.action == calls[at].action && outcome.steps == 0);
+        callfilter_decision decision = callfilter_decide(WORKED_SET, sizeof WORKED_SET, call, sizeof call);
+        CHECK(decision.code == CALLFILTER_RETURNED && decision.action == calls[at].action && decision.entry == NOWHERE);
     }
     CHECK(callfilter_run(filter, size - 8, call, sizeof call).code == CALLFILTER_NOT_TAKEN);
     CHECK(callfilter_run(filter, size, call, sizeof call - 1).code == CALLFILTER_NOT_A_CALL);
     CHECK(callfilter_decide(WORKED_SET, sizeof WORKED_SET - 1, call, sizeof call).code == CALLFILTER_NOT_OF_THE_FORMAT);
-    CHECK(callfilter_decide(WORKED_SET, sizeof WORKED_SET, call, sizeof call - 1).code == CALLFILTER_NOT_A_CALL);
+    callfilter_decision decision = callfilter_decide(WORKED_SET, sizeof WORKED_SET, call, sizeof call - 1);
+    CHECK(decision.code == CALLFILTER_NOT_A_CALL && decision.entry == NOWHERE && decision.rule == NOWHERE && decision.condition == NOWHERE);
 }
 
 /* a set for native numbers only that lists some numbers, two of which no call can reach */
@@ -353,7 +365,7 @@ static void native_by(form compile, uint32_t architecture) {
         put(call + 4, words[architecture & 3], 4);
         uint32_t action = guarded ? calls[at].action_of_native : calls[at].action;
         CHECK(callfilter_run(filter, size, call, sizeof call).action == action);
-        callfilter_outcome means = callfilter_decide(long_set, writer.end, call, sizeof call);
+        callfilter_decision means = callfilter_decide(long_set, writer.end, call, sizeof call);
         CHECK(means.code == CALLFILTER_RETURNED && means.action == action);
     }
 }

@@ -85,7 +85,7 @@ static void put_calls(question *q) {
 static bool as_expected(const question *q, const small_set *set, bool native_only, unsigned list) {
     if (difference(q, proved, 0) != AGREED || q->taken != 0 || q->made != 2 * NUMBERS) return false;
     for (unsigned at = 0; at < q->made; at++) {
-        callfilter_outcome means = callfilter_decide(set->bytes, set->size, (const uint8_t *)&q->call[at], sizeof q->call[at]);
+        callfilter_decision means = callfilter_decide(set->bytes, set->size, (const uint8_t *)&q->call[at], sizeof q->call[at]);
         int32_t wanted = expected(native_only, list, at / 2, at % 2);
         if (q->seen[at] == wanted && means.code == CALLFILTER_RETURNED && seen_of(means.action) == wanted) continue;
         printf("FAILED number %08x, argument %u: the kernel gave %d, the set means %08x, expected %d\n", numbers[at / 2].number, at % 2,

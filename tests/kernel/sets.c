@@ -138,9 +138,9 @@ static callfilter_outcome decided(const question *q, const call *made, unsigned 
         if (wrong == NUMBER_CUT) changed_call.nr &= 0xffff;
         if (wrong == ARCHITECTURE_IGNORED) changed_call.arch = architecture_word(*set->bytes);
     }
-    callfilter_outcome outcome = callfilter_decide(set->bytes, set->size, (const uint8_t *)&changed_call, sizeof changed_call);
-    if (wrong != NONE && outcome.code != 0) fail("a changed set is none any more");
-    return outcome;
+    callfilter_decision decision = callfilter_decide(set->bytes, set->size, (const uint8_t *)&changed_call, sizeof changed_call);
+    if (wrong != NONE && decision.code != 0) fail("a changed set is none any more");
+    return (callfilter_outcome){.code = decision.code, .action = decision.action};
 }
 
 static const judge meaning = {always_taken, decided};

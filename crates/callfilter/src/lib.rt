@@ -19,6 +19,7 @@ ghost use Rattle.set_view.specs.Parts.{mostBytes};
 use definitions::Answer;
 use definitions::Compared;
 use definitions::Cursor;
+use definitions::Decision;
 use definitions::Fault;
 use definitions::Head;
 use definitions::Listed;
@@ -129,7 +130,7 @@ pub extern "C" fn callfilter_run(filter: &[u8], call: &[u8]) -> Outcome
 
 // What a rule set means for a call.
 #[no_mangle]
-pub extern "C" fn callfilter_decide(set: &[u8], call: &[u8]) -> Outcome
+pub extern "C" fn callfilter_decide(set: &[u8], call: &[u8]) -> Decision
     ensures { λ r. ⌜ r ≡ decidedOf (now (set .entry)) (now (call .entry)) ⌝ }
 {
     decision::decide(set, call)

@@ -13,6 +13,7 @@ use Rattle.definitions.specs.RuleSet.{RuleSet, architectureWord, inSecondTable,
 use Rattle.definitions.specs.Format.{read}
 use Rattle.definitions.specs.Answer.{refusal}
 use Rattle.definitions.specs.Outcome.{decided, decidedRead, decidedOf}
+use Rattle.theorems.proofs.Answers.{none-refused}
 use Rattle.judge.specs.declared.Judged.{Judged}
 use Rattle.judge.specs.Walk.{judged}
 use Rattle.set_view.specs.Names.{guardsBy, namedArchitecture}
@@ -130,26 +131,26 @@ entry-fits s n at past h e i =
 
 -- ---- what is decided, by what is said of the set
 
-refused-by : (x : Option RuleSet) (c : Call) → (judged x .fault .code ≡ 0 → ⊥) → decidedRead x c ≡ decided (judged x .fault .code) 0
+refused-by : (x : Option RuleSet) (c : Call) → (judged x .fault .code ≡ 0 → ⊥) → decidedRead x c ≡ decided (judged x .fault) 0
 unfolding judged
 refused-by none c h = refl
 refused-by (some rs) c h = rw (ne-eqb (refusal rs .code) 0 h)
 
 pub decided-refused : (set call : List ℕ) (j : Judged) → length call ≡ 64 → j ≡ judged (read set) → (j .fault .code ≡ 0 → ⊥)
-    → decidedOf set call ≡ decided (j .fault .code) 0
+    → decidedOf set call ≡ decided (j .fault) 0
 unfolding decidedOf
 decided-refused set call j size e h = rw (eq-eqb (length call) 64 size, e) (refused-by (read set) (callOf call) (rw e at h))
 
 -- a set in which nothing is refused: what it means is decided
 decides-by : (set : List ℕ) (x : Option RuleSet) (c : Call) → read set ≡ x → judged x .fault .code ≡ 0
-    → Readable set × (decidedRead x c ≡ decided 0 (meaning (setHere set) c))
+    → Readable set × (decidedRead x c ≡ decided (judged x .fault) (meaning (setHere set) c))
 unfolding judged
 decides-by set none c e z = absurd (omega arith)
-decides-by set (some rs) c e z = (readable set rs e, rw (← read-agrees set rs e .0, eq-eqb (refusal rs .code) 0 z))
+decides-by set (some rs) c e z = (readable set rs e, rw (← read-agrees set rs e .0, none-refused rs z))
 
 pub decides : (set call : List ℕ) (j : Judged) → length call ≡ 64 → j ≡ judged (read set) → j .fault .code ≡ 0
-    → Readable set × (decidedOf set call ≡ decided 0 (meaning (setHere set) (callOf call)))
+    → Readable set × (decidedOf set call ≡ decided (j .fault) (meaning (setHere set) (callOf call)))
 unfolding decidedOf
 decides set call j size e z =
     let w = decides-by set (read set) (callOf call) refl (rw e at z) in
-    (w .0, rw (eq-eqb (length call) 64 size) (w .1))
+    (w .0, rw (eq-eqb (length call) 64 size, e) (w .1))

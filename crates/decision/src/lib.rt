@@ -11,8 +11,9 @@ ghost use Rattle.definitions.specs.Outcome as outcomes;
 ghost use Rattle.set_view.specs.Names.{guardsBy};
 ghost use Rattle.set_view.specs.Parts.{Reach, Readable, conditionsHere, entriesHere, entriesPast, rulesHere, rulesPast, setHere};
 use definitions::Condition;
+use definitions::Decision;
+use definitions::Fault;
 use definitions::Operator;
-use definitions::Outcome;
 use definitions::Width;
 use set_view::condition_here;
 
@@ -22,6 +23,9 @@ const KILL_PROCESS: u32 = 0x80000000;
 const SECOND_TABLE: u32 = 0x40000000;
 
 const CANCELLED: u32 = 0xffffffff;
+
+// What stands for a number that does not apply.
+const NOWHERE: u32 = 0xffffffff;
 
 // What of a number is looked at.
 fn cut(width: Width, x: u64) -> u64
@@ -183,26 +187,28 @@ fn meaning(s: &[u8], call: &[u8]) -> u32
     listed(call, s, n, 16, m, d)
 }
 
-fn decided(code: u32, action: u32) -> Outcome
-    ensures { λ r. ⌜ r ≡ outcomes.decided code action ⌝ }
+fn decided(found: Fault, action: u32) -> Decision
+    ensures { λ r. ⌜ r ≡ outcomes.decided found action ⌝ }
 {
-    Outcome {
-        code: code,
+    Decision {
+        code: found.code,
         action: action,
-        steps: 0,
+        entry: found.entry,
+        rule: found.rule,
+        condition: found.condition,
     }
 }
 
 // What a rule set means for a call.
-pub fn decide(set: &[u8], call: &[u8]) -> Outcome
+pub fn decide(set: &[u8], call: &[u8]) -> Decision
     ensures { λ r. ⌜ r ≡ outcomes.decidedOf (now (set .entry)) (now (call .entry)) ⌝ }
 {
     if call.len() != 64 {
-        return decided(9, 0);
+        return decided(judge::fault(9, NOWHERE, NOWHERE, NOWHERE), 0);
     }
-    let code = judge::judge(set).fault.code;
-    if code != 0 {
-        return decided(code, 0);
+    let found = judge::judge(set).fault;
+    if found.code != 0 {
+        return decided(found, 0);
     }
-    decided(0, meaning(set, call))
+    decided(found, meaning(set, call))
 }

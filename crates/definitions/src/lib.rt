@@ -54,14 +54,24 @@ pub struct Answer {
     pub condition: u32,
 }
 
-// What asking about a call answers. Of a filter: 0 with the action and the number of instructions executed, or 1 for a filter that the
-// kernel would not take. Of a rule set: 0 with the action, or the answer 1 to 5 or 8 that compiling gives. And 9 for a call that is not
-// 64 bytes.
+// What asking a filter about a call answers: 0 with the action and the number of instructions executed, 1 for a filter that the kernel
+// would not take, 9 for a call that is not 64 bytes.
 #[repr(C)]
 pub struct Outcome {
     pub code: u32,
     pub action: u32,
     pub steps: u32,
+}
+
+// What asking a rule set about a call answers: 0 with the action, the answer 1 to 5 or 8 that compiling gives, with the place of its
+// fault, or 9 for a call that is not 64 bytes.
+#[repr(C)]
+pub struct Decision {
+    pub code: u32,
+    pub action: u32,
+    pub entry: u32,
+    pub rule: u32,
+    pub condition: u32,
 }
 
 // What stands between two calls that write a set: what became of the last one (0: it was taken), how many bytes are written, and the

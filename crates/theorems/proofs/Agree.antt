@@ -5,8 +5,10 @@ use Prim.Native.Nat.{ℕ}
 use lib.ListN.{length}
 use borrow.Author.Tests.{eq-eqb}
 use Rattle.definitions.specs.declared.Outcome.{Outcome}
+use Rattle.definitions.specs.declared.Decision.{Decision}
 use Rattle.definitions.specs.Machine.{filterOf, callOf, steps}
 use Rattle.definitions.specs.RuleSet.{meaning}
+use Rattle.definitions.specs.Answer.{noFault}
 use Rattle.definitions.specs.Compiled.{filterIn}
 use Rattle.definitions.specs.Outcome.{outcomeOf, decided, decidedOf}
 use Rattle.theorems.proofs.RoundTrip.{read-written}
@@ -19,6 +21,12 @@ code o = o .code
 abbrev action : Outcome → ℕ
 action o = o .action
 
+abbrev decidedCode : Decision → ℕ
+decidedCode d = d .code
+
+abbrev decidedAction : Decision → ℕ
+decidedAction d = d .action
+
 pub agree : Agree
 unfolding outcomeOf decidedOf
 agree set before after r bytes p z call size =
@@ -28,5 +36,5 @@ agree set before after r bytes p z call size =
     let ran : outcomeOf (filterIn r after) call
     ≡ record { code = 0; action = meaning (k .0) (callOf call); steps = steps (filterOf (filterIn r after)) (callOf call) } =
     rw (eq-eqb (length call) 64 size, p .behaves .taken z, right) in
-    let said : decidedOf set call ≡ decided 0 (meaning (k .0) (callOf call)) = rw (eq-eqb (length call) 64 size, k .1 .from, k .1 .nothing) in
-    (ap code ran, ap code said, ap action ran ∙ sym (ap action said))
+    let said : decidedOf set call ≡ decided noFault (meaning (k .0) (callOf call)) = rw (eq-eqb (length call) 64 size, k .1 .from, k .1 .nothing) in
+    (ap code ran, ap decidedCode said, ap action ran ∙ sym (ap decidedAction said))

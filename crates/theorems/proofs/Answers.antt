@@ -104,6 +104,11 @@ not-refused rs e = least-none (setFaults rs) (set-numbered rs) e
 passed : (rs : RuleSet) (k : ℕ) (t : Bool) → refusal rs .code ≡ 0 → has k (setFaults rs) ≡ not t → t ≡ true
 passed rs k t e h = not-false t (sym h ∙ (unfold has in rw (not-refused rs e)))
 
+-- the fault that is found is then none
+pub none-refused : (rs : RuleSet) → refusal rs .code ≡ 0 → refusal rs ≡ noFault
+unfolding leastOf
+none-refused rs e = rw (not-refused rs e)
+
 pub ascending-entries : (rs : RuleSet) → refusal rs .code ≡ 0 → ascending (rs .entries) ≡ true
 ascending-entries rs e = passed rs 2 _ e (order-faults rs)
 
@@ -169,13 +174,17 @@ pub answered-none : (n long : ℕ) (rs : RuleSet) (room : ℕ) → leastOf (refu
     → leastOf (refusal rs) (filterFaults n long room) ≡ noFault
 answered-none n long rs room e = answered n long rs room e .said
 
+-- no set is refused with a number of another kind
+pub never-refused : (rs : RuleSet) (k : ℕ) → oneOf setCodes k ≡ false → (0 ≡ k → ⊥) → refusal rs .code ≡ k → ⊥
+never-refused rs k other positive e =
+    let w = least-first k noFault (setFaults rs) (set-numbered rs) e positive .0 in
+    let v = set-lacks rs k other in
+    let z : _≡_ {A = ℕ} 0 1 = cc in omega arith
+
 -- 1 is said of nothing that was read
 pub never-one : (rs : RuleSet) → refusal rs .code ≡ 1 → ⊥
 unfolding oneOf
-never-one rs e =
-    let w = least-first 1 noFault (setFaults rs) (set-numbered rs) e (λ z. omega arith) .0 in
-    let v = set-lacks rs 1 refl in
-    let z : _≡_ {A = ℕ} 0 1 = cc in omega arith
+never-one rs e = never-refused rs 1 refl (λ z. omega arith) e
 
 pub answered-not-one : (n long : ℕ) (rs : RuleSet) (room : ℕ) → leastOf (refusal rs) (filterFaults n long room) .code ≡ 1 → ⊥
 unfolding oneOf

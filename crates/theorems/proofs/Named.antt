@@ -10,21 +10,23 @@ use lib.Dec.{eqb, leb, ltb}
 use lib.ListN.{length, take, getD, length-append}
 use lib.Seq.{take-all, take-append-le}
 use native.Mathlib.Nat.{add-zero, zero-add}
-use borrow.Author.Tests.{eqb-true, not-true, leb-true, leb-false, le-leb, lt-ltb}
+use borrow.Author.Tests.{eq-eqb, eqb-true, not-true, leb-true, leb-false, le-leb, lt-ltb}
 use Rattle.definitions.specs.declared.Condition.{Condition}
 use Rattle.definitions.specs.declared.Fault.{Fault}
-use Rattle.definitions.specs.RuleSet.{Rule, Entry, RuleSet, withEntries, guarded, oneOf}
+use Rattle.definitions.specs.RuleSet.{Rule, Entry, RuleSet, withEntries, guarded, meaning, oneOf}
 use Rattle.definitions.specs.Emitted.{emitted}
 use Rattle.definitions.specs.Format.{read}
 use Rattle.definitions.specs.Answer as answers
 use Rattle.definitions.specs.Answer.{all, hasConditions, indexTaken, fitsWidth, tooMany, fault, nowhere, noFault, unless, setFaults, filterFaults, firstWith, shortWith, tooLong, leastOf, refusal, answer, answerOf}
-use Rattle.theorems.specs.Named.{FirstFailing, FirstWith, noEntry, RuleNamed, ruleOf, NamedIn, Nowhere, Named, placeless, Unnamed}
+use Rattle.definitions.specs.Machine.{Call, callOf}
+use Rattle.definitions.specs.Outcome.{decided, decidedRead, decidedOf}
+use Rattle.theorems.specs.Named.{FirstFailing, FirstWith, noEntry, RuleNamed, ruleOf, NamedIn, Nowhere, refusedBy, Named, placeless, Unnamed, undecidedBy, DecidedNamed, undecided, DecidedUnnamed}
 use Rattle.theorems.specs.Length.{filterLength}
 use Rattle.theorems.proofs.Tests.{either-true}
 use Rattle.theorems.proofs.Heads.{head-few}
 use Rattle.theorems.proofs.Lengths.{length-emitted}
 use Rattle.theorems.proofs.Faults.{lacks, has, firstOf, has-append, first-append, among-unless, own-had, own-first, other-had, other-first, alone-first, firstFailing, firstBelow, spottedIn, spottedRule, RuleRow, index-row, width-row, rule-row, empty-row, order-faults, order-place, rule-faults, rule-place}
-use Rattle.theorems.proofs.Answers.{filter-codes, set-lacks, entries-lack, answered-by, answered-none, answered-not-one}
+use Rattle.theorems.proofs.Answers.{filter-codes, set-lacks, entries-lack, answered-by, none-refused, never-refused, answered-none, answered-not-one}
 
 -- ---- of lists
 
@@ -115,26 +117,26 @@ entry-named : (f : List Entry → Bool) (es : List Entry) → f [] ≡ true → 
 entry-named f es empty h =
     rw zero-add at (first-with f [] es h (λ k l. let z : k ≡ 0 = omega arith in rw z empty))
 
-module _ (rs : RuleSet) (n room : ℕ) where
+module _ (rs : RuleSet) (n long room : ℕ) where
   abbrev least : Fault
-  least = leastOf (refusal rs) (filterFaults n (tooLong rs) room)
+  least = leastOf (refusal rs) (filterFaults n long room)
 
   -- a number of the set's own
   from-set : (k : ℕ) → oneOf (6 ∷ 7 ∷ []) k ≡ false → (0 ≡ k → ⊥) → least .code ≡ k → (has k (setFaults rs) ≡ true) × (least ≡ firstOf k (setFaults rs))
   from-set k other positive e =
-      let w = answered-by n (tooLong rs) rs room k e positive in
-      let absent = lacks (6 ∷ 7 ∷ []) (filterFaults n (tooLong rs) room) k other (filter-codes n (tooLong rs) room) in
-      let either = rw (has-append k (setFaults rs) (filterFaults n (tooLong rs) room), absent) at (w .0) in
+      let w = answered-by n long rs room k e positive in
+      let absent = lacks (6 ∷ 7 ∷ []) (filterFaults n long room) k other (filter-codes n long room) in
+      let either = rw (has-append k (setFaults rs) (filterFaults n long room), absent) at (w .0) in
       let there : has k (setFaults rs) ≡ true = either-true (has k (setFaults rs)) false (λ p. p) (λ p. cc) either in
-      (there, w .1 ∙ rw (first-append k (setFaults rs) (filterFaults n (tooLong rs) room), there))
+      (there, w .1 ∙ rw (first-append k (setFaults rs) (filterFaults n long room), there))
 
   -- a number of the filter's
   from-filter : (k : ℕ) → has k (setFaults rs) ≡ false → (0 ≡ k → ⊥) → least .code ≡ k
-      → (has k (filterFaults n (tooLong rs) room) ≡ true) × (least ≡ firstOf k (filterFaults n (tooLong rs) room))
+      → (has k (filterFaults n long room) ≡ true) × (least ≡ firstOf k (filterFaults n long room))
   from-filter k lacking positive e =
-      let w = answered-by n (tooLong rs) rs room k e positive in (
-        rw (has-append k (setFaults rs) (filterFaults n (tooLong rs) room), lacking) at (w .0),
-        w .1 ∙ rw (first-append k (setFaults rs) (filterFaults n (tooLong rs) room), lacking),
+      let w = answered-by n long rs room k e positive in (
+        rw (has-append k (setFaults rs) (filterFaults n long room), lacking) at (w .0),
+        w .1 ∙ rw (first-append k (setFaults rs) (filterFaults n long room), lacking),
       )
 
   abbrev failing : (Rule → Bool) → ℕ
@@ -149,51 +151,49 @@ module _ (rs : RuleSet) (n room : ℕ) where
     place-is : least ≡ spottedRule test spot (failing test) (getD (rs .entries) (failing test) noEntry)
     place-is = from-set k other positive e .1 ∙ rule-place rs row two three noEntry fails
 
-  rule-named : (test : Rule → Bool) (k m c : ℕ) → all (λ (x : Entry). all test (x .rules)) (rs .entries) ≡ false
-      → RuleNamed test rs (answer m (fault k (failing test) (firstFailing test (getD (rs .entries) (failing test) noEntry .rules)) c))
-  unfolding answer
-  rule-named test k m c h =
+  rule-named : (test : Rule → Bool) (k c : ℕ) → all (λ (x : Entry). all test (x .rules)) (rs .entries) ≡ false
+      → RuleNamed test rs (fault k (failing test) (firstFailing test (getD (rs .entries) (failing test) noEntry .rules)) c)
+  rule-named test k c h =
       let entry = first-failing (λ (x : Entry). all test (x .rules)) noEntry (rs .entries) h in
       record { entry = entry; rule = first-failing test [] (getD (rs .entries) (failing test) noEntry .rules) (entry .fails) }
 
   -- of a condition
   module _ {k : ℕ} {test : Condition → Bool} (row : RuleRow k (all test) (spottedIn k test)) (two : eqb 2 k ≡ false) (three : eqb 3 k ≡ false)
       (other : oneOf (6 ∷ 7 ∷ []) k ≡ false) (positive : 0 ≡ k → ⊥) (e : least .code ≡ k) where
-    condition-named : RuleNamed (all test) rs (answer n least)
-        × ((q : Condition) → FirstFailing test q (ruleOf rs (answer n least)) (answer n least .condition))
-    unfolding answer
+    condition-named : RuleNamed (all test) rs least
+        × ((q : Condition) → FirstFailing test q (ruleOf rs least) (least .condition))
     condition-named =
         rw (place-is row two three other positive e)
-        (let named = rule-named (all test) k n (firstFailing test (getD (getD (rs .entries) (failing (all test)) noEntry .rules) (firstFailing (all test) (getD (rs .entries) (failing (all test)) noEntry .rules)) [])) (fails row two three other positive e) in
+        (let named = rule-named (all test) k (firstFailing test (getD (getD (rs .entries) (failing (all test)) noEntry .rules) (firstFailing (all test) (getD (rs .entries) (failing (all test)) noEntry .rules)) [])) (fails row two three other positive e) in
         (named, λ q. first-failing test q _ (named .rule .fails)))
 
-  order-named : least .code ≡ 2 → FirstWith answers.ascending (rs .entries) (answer n least .entry) × (answer n least .rule ≡ nowhere) × (answer n least .condition ≡ nowhere)
-  unfolding answer answers.ascending oneOf
+  order-named : least .code ≡ 2 → FirstWith answers.ascending (rs .entries) (least .entry) × (least .rule ≡ nowhere) × (least .condition ≡ nowhere)
+  unfolding answers.ascending oneOf
   order-named e =
       let w = from-set 2 refl (λ z. omega arith) e in
       let down = not-true _ (sym (order-faults rs) ∙ w .0) in
       let same = first-below 0 [] (rs .entries) (λ f. sym (le-leb 0 (f .number) (omega arith))) in
       rw (w .1, order-place rs down, ← same) (entry-named answers.ascending (rs .entries) refl down, refl, refl)
 
-  empty-named : least .code ≡ 4 → RuleNamed hasConditions rs (answer n least) × (answer n least .condition ≡ nowhere)
-  unfolding answer oneOf
+  empty-named : least .code ≡ 4 → RuleNamed hasConditions rs least × (least .condition ≡ nowhere)
+  unfolding oneOf
   empty-named e =
       rw (place-is empty-row refl refl refl (λ z. omega arith) e)
-      (rule-named hasConditions 4 n nowhere (fails empty-row refl refl refl (λ z. omega arith) e), refl)
+      (rule-named hasConditions 4 nowhere (fails empty-row refl refl refl (λ z. omega arith) e), refl)
 
-  long-place : least .code ≡ 6 → (ltb n tooMany ≡ false) × (least ≡ fault 6 (tooLong rs) nowhere nowhere)
+  long-place : least .code ≡ 6 → (ltb n tooMany ≡ false) × (least ≡ fault 6 long nowhere nowhere)
   unfolding oneOf filterFaults
   long-place e =
       let w = from-filter 6 (set-lacks rs 6 refl) (λ z. omega arith) e in
       let absent = lacks (7 ∷ []) (unless (leb (8 * n) room) (answers.placeless 7)) 6 refl (among-unless (7 ∷ []) (leb (8 * n) room) (answers.placeless 7) refl) in
-      let long = not-true _ (sym (own-had 6 (ltb n tooMany) (fault 6 (tooLong rs) nowhere nowhere) _ refl absent) ∙ w .0) in
+      let long = not-true _ (sym (own-had 6 (ltb n tooMany) (fault 6 long nowhere nowhere) _ refl absent) ∙ w .0) in
       (long, w .1 ∙ own-first 6 (ltb n tooMany) _ _ refl long)
 
   room-place : least .code ≡ 7 → least ≡ answers.placeless 7
   unfolding oneOf filterFaults
   room-place e =
       let w = from-filter 7 (set-lacks rs 7 refl) (λ z. omega arith) e in
-      let six = fault 6 (tooLong rs) nowhere nowhere in
+      let six = fault 6 long nowhere nowhere in
       let short = sym (other-had 7 (ltb n tooMany) six (unless (leb (8 * n) room) (answers.placeless 7)) refl) ∙ w .0 in
       w .1 ∙ other-first 7 (ltb n tooMany) six (unless (leb (8 * n) room) (answers.placeless 7)) refl ∙ alone-first (leb (8 * n) room) (answers.placeless 7) short
 
@@ -205,50 +205,95 @@ module _ (rs : RuleSet) (n room : ℕ) where
       let same = not-true differ (sym (own-had 3 differ (answers.placeless 3) _ refl (entries-lack 3 refl (rs .entries))) ∙ w .0) in
       w .1 ∙ own-first 3 differ _ _ refl same
 
+-- `Long` holds of the entry that is told where n instructions are too many
+named-in : (Long : ℕ → Type 0) (rs : RuleSet) (n long room : ℕ) → (ltb n tooMany ≡ false → Long long) → NamedIn Long rs (least rs n long room)
+unfolding oneOf
+named-in Long rs n long room told = record {
+  ascending = order-named rs n long room;
+  empty = empty-named rs n long room;
+  index = condition-named rs n long room (rule-row index-row refl) refl refl refl (λ z. omega arith);
+  long = λ e.
+      let w = long-place rs n long room e in
+      rw (w .1) (told (w .0), refl, refl);
+  wide = condition-named rs n long room (rule-row width-row refl) refl refl refl (λ z. omega arith);
+}
+
 short-without : (rs : RuleSet) → shortWith rs [] ≡ true
 unfolding filterLength
 short-without rs =
     let none : RuleSet = withEntries rs [] in
     lt-ltb (length (emitted none)) tooMany (omega (arith, length-emitted none, head-few (guarded none) 0))
 
-named-in : (rs : RuleSet) (room : ℕ) → NamedIn rs (answer (length (emitted rs)) (least rs (length (emitted rs)) room))
-unfolding answer oneOf
-named-in rs room =
-    let n = length (emitted rs) in
-    record {
-      ascending = order-named rs n room;
-      empty = empty-named rs n room;
-      index = condition-named rs n room (rule-row index-row refl) refl refl refl (λ z. omega arith);
-      long = λ e.
-          let w = long-place rs n room e in
-          rw (w .1) (entry-named (shortWith rs) (rs .entries) (short-without rs) (w .0), refl, refl);
-      wide = condition-named rs n room (rule-row width-row refl) refl refl refl (λ z. omega arith);
-    }
-
 pub named : Named
-unfolding answerOf
-named set room rs e = rw e (named-in rs room)
+unfolding answerOf answer
+named set room rs e =
+    rw e (named-in (FirstWith (shortWith rs) (rs .entries)) rs (length (emitted rs)) (tooLong rs) room (entry-named (shortWith rs) (rs .entries) (short-without rs)))
 
 -- ---- the answers that name nothing
 
-nowhere-by : (n : ℕ) (f : Fault) (k : ℕ) → f ≡ answers.placeless k → Nowhere (answer n f)
-unfolding answer
-nowhere-by n f k e = rw e (refl, refl, refl)
+nowhere-too : (f g : Fault) → f ≡ g → Nowhere g → Nowhere f
+nowhere-too f g e h = rw e h
 
-unnamed-in : (rs : RuleSet) (n room code : ℕ) → oneOf placeless code ≡ true → least rs n room .code ≡ code → Nowhere (answer n (least rs n room))
+nowhere-by : (f : Fault) (k : ℕ) → f ≡ answers.placeless k → Nowhere f
+nowhere-by f k e = nowhere-too f (answers.placeless k) e (refl, refl, refl)
+
+unnamed-in : (rs : RuleSet) (n long room code : ℕ) → oneOf placeless code ≡ true → least rs n long room .code ≡ code → Nowhere (least rs n long room)
 unfolding oneOf
-unnamed-in rs n room code h e =
-    either-true (eqb code 0) _ (λ p. nowhere-by n _ 0 (answered-none n (tooLong rs) rs room (e ∙ eqb-true code 0 p)))
-    (either-true (eqb code 1) _ (λ p. absurd (answered-not-one n (tooLong rs) rs room (e ∙ eqb-true code 1 p)))
-    (either-true (eqb code 3) _ (λ p. nowhere-by n _ 3 (actions-place rs n room (e ∙ eqb-true code 3 p)))
-    (either-true (eqb code 7) _ (λ p. nowhere-by n _ 7 (room-place rs n room (e ∙ eqb-true code 7 p))) (λ q. absurd (let z : _≡_ {A = ℕ} 0 1 = cc in omega arith))))) h
+unnamed-in rs n long room code h e =
+    either-true (eqb code 0) _ (λ p. nowhere-by _ 0 (answered-none n long rs room (e ∙ eqb-true code 0 p)))
+    (either-true (eqb code 1) _ (λ p. absurd (answered-not-one n long rs room (e ∙ eqb-true code 1 p)))
+    (either-true (eqb code 3) _ (λ p. nowhere-by _ 3 (actions-place rs n long room (e ∙ eqb-true code 3 p)))
+    (either-true (eqb code 7) _ (λ p. nowhere-by _ 7 (room-place rs n long room (e ∙ eqb-true code 7 p))) (λ q. absurd (let z : _≡_ {A = ℕ} 0 1 = cc in omega arith))))) h
 
 unnamed-by : (x : Option RuleSet) (room code : ℕ) → oneOf placeless code ≡ true → answers.answerBy answers.emittedSize tooLong x room .code ≡ code
-    → Nowhere (answers.answerBy answers.emittedSize tooLong x room)
+    → Nowhere (refusedBy (answers.answerBy answers.emittedSize tooLong x room))
 unfolding answer
 unnamed-by none room code h e = (refl, refl, refl)
-unnamed-by (some rs) room code h e = unnamed-in rs (length (emitted rs)) room code h e
+unnamed-by (some rs) room code h e = unnamed-in rs (length (emitted rs)) (tooLong rs) room code h e
 
 pub unnamed : Unnamed
 unfolding answerOf
 unnamed set room code h e = unnamed-by (read set) room code h e
+
+-- ---- deciding: as compiling into no instructions, which are never too many, nor too many for a buffer
+
+abbrev faultCode : Fault → ℕ
+faultCode f = f .code
+
+no-filter : (rs : RuleSet) → least rs 0 0 0 ≡ refusal rs
+unfolding filterFaults unless leastOf
+no-filter rs = refl
+
+decided-in : (rs : RuleSet) (c : Call) → undecidedBy (decidedRead (some rs) c) ≡ least rs 0 0 0
+decided-in rs c = rw (no-filter rs) (go (eqb (refusal rs .code) 0) refl)
+  where
+    go : (t : Bool) → eqb (refusal rs .code) 0 ≡ t
+        → undecidedBy (cond t (decided noFault (meaning rs c)) (decided (refusal rs) 0)) ≡ refusal rs
+    go true e = sym (none-refused rs (eqb-true (refusal rs .code) 0 e))
+    go false e = refl
+
+pub decided-named : DecidedNamed
+unfolding decidedOf
+decided-named set call rs size e =
+    rw (eq-eqb (length call) 64 size, e, decided-in rs (callOf call)) (named-in (λ n. ⊥) rs 0 0 0 (λ f. let z : _≡_ {A = ℕ} 0 1 = cc in omega arith))
+
+undecided-by : (x : Option RuleSet) (c : Call) (code : ℕ) → oneOf undecided code ≡ true → decidedRead x c .code ≡ code → Nowhere (undecidedBy (decidedRead x c))
+unfolding oneOf
+undecided-by none c code h e = (refl, refl, refl)
+undecided-by (some rs) c code h e =
+    let same : least rs 0 0 0 .code ≡ code = sym (ap faultCode (decided-in rs c)) ∙ e in
+    let none : (k : ℕ) → oneOf placeless k ≡ true → eqb code k ≡ true → Nowhere (least rs 0 0 0) = λ k o p. unnamed-in rs 0 0 0 k o (same ∙ eqb-true code k p) in
+    nowhere-too _ _ (decided-in rs c)
+    (either-true (eqb code 0) _ (none 0 refl)
+    (either-true (eqb code 1) _ (none 1 refl)
+    (either-true (eqb code 3) _ (none 3 refl)
+    (either-true (eqb code 9) _ (λ p. absurd (never-refused rs 9 refl (λ z. omega arith) (sym (ap faultCode (no-filter rs)) ∙ same ∙ eqb-true code 9 p))) (λ q. absurd (let z : _≡_ {A = ℕ} 0 1 = cc in omega arith))))) h)
+
+pub decided-unnamed : DecidedUnnamed
+unfolding decidedOf
+decided-unnamed set call code h e = go (eqb (length call) 64) e
+  where
+    go : (t : Bool) → cond t (decidedRead (read set) (callOf call)) (decided (answers.placeless 9) 0) .code ≡ code
+        → Nowhere (undecidedBy (cond t (decidedRead (read set) (callOf call)) (decided (answers.placeless 9) 0)))
+    go true e = undecided-by (read set) (callOf call) code h e
+    go false e = (refl, refl, refl)

@@ -40,6 +40,16 @@ pub(crate) struct Ended {
 
 #[repr(C)]
 #[derive(Clone, Copy)]
+pub(crate) struct Decision {
+    pub code: u32,
+    pub action: u32,
+    pub entry: u32,
+    pub rule: u32,
+    pub condition: u32,
+}
+
+#[repr(C)]
+#[derive(Clone, Copy)]
 pub(crate) struct Writer {
     pub code: u32,
     pub end: u32,
@@ -106,7 +116,7 @@ extern "C" {
     fn callfilter_next_condition(set: *const u8, set_len: usize, cursor: Cursor) -> Compared;
     fn callfilter_accepts(filter: *const u8, filter_len: usize) -> bool;
     fn callfilter_run(filter: *const u8, filter_len: usize, call: *const u8, call_len: usize) -> Ended;
-    fn callfilter_decide(set: *const u8, set_len: usize, call: *const u8, call_len: usize) -> Ended;
+    fn callfilter_decide(set: *const u8, set_len: usize, call: *const u8, call_len: usize) -> Decision;
 }
 
 // The casts below go from instructions to bytes: an instruction is eight bytes without padding, and any eight bytes are an instruction.
@@ -172,7 +182,7 @@ pub(crate) fn run(filter: &[sock_filter], call: &[u8; 64]) -> Ended {
     unsafe { callfilter_run(filter.as_ptr().cast(), std::mem::size_of_val(filter), call.as_ptr(), call.len()) }
 }
 
-pub(crate) fn decide(set: &[u8], call: &[u8; 64]) -> Ended {
+pub(crate) fn decide(set: &[u8], call: &[u8; 64]) -> Decision {
     // SAFETY: both slices are good for their lengths
     unsafe { callfilter_decide(set.as_ptr(), set.len(), call.as_ptr(), call.len()) }
 }

@@ -3,15 +3,21 @@
 use std::iter::from_fn;
 
 use crate::architecture::NATIVE_ONLY;
-use crate::boundary::{self, Answer, Compared, Cursor};
-use crate::{Action, Architecture, Condition, Error, Filter, Operator, Place, Rule, RuleSet, Width};
+use crate::boundary::{self, Answer, Compared, Cursor, Decision};
+use crate::{Action, Architecture, Condition, Error, Operator, Place, Rule, RuleSet, Width};
 
 /// The rule set that bytes stand for.
 pub(crate) fn set_of(bytes: &[u8]) -> Result<RuleSet, Error> {
-    match Filter::compile(bytes) {
-        // that no filter is short enough says nothing against the set
-        Ok(_) | Err(Error::TooManyInstructions { .. }) => Parts::read(bytes).typed(),
-        Err(refused) => Err(refused),
+    // whatever the call, since no action is looked at; and that no filter is short enough says nothing against the set
+    action_of(bytes, &[0; 64]).and_then(|_| Parts::read(bytes).typed())
+}
+
+/// The word that a set means for a call.
+pub(crate) fn action_of(set: &[u8], call: &[u8; 64]) -> Result<u32, Error> {
+    let Decision { code, action, entry, rule, condition } = boundary::decide(set, call);
+    match code {
+        0 => Ok(action),
+        _ => Err(refusal(Answer { code, count: 0, entry, rule, condition }, set)),
     }
 }
 

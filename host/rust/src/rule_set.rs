@@ -4,7 +4,7 @@ use std::collections::BTreeMap;
 use std::fmt;
 use std::ops::Deref;
 
-use crate::{boundary, reading, writing, Action, Architecture, Call, Condition, Error, Filter};
+use crate::{reading, writing, Action, Architecture, Call, Condition, Error, Filter};
 
 /// Conditions that must all hold.
 pub type Rule = Vec<Condition>;
@@ -182,13 +182,8 @@ impl RuleSet {
     /// # Ok::<(), callfilter::Error>(())
     /// ```
     pub fn decide(&self, call: &Call) -> Result<Action, Error> {
-        let set = self.to_bytes()?;
-        let ended = boundary::decide(&set, &call.to_bytes());
-        if ended.code != 0 {
-            // deciding says no place, compiling does
-            return Err(Filter::compile(&set).expect_err("what is not decided is not compiled"));
-        }
-        Ok(Action::from_word(ended.action).expect("a set has no other actions"))
+        let word = reading::action_of(&self.to_bytes()?, &call.to_bytes())?;
+        Ok(Action::from_word(word).expect("a set has no other actions"))
     }
 
     /// The set as bytes, which has one form only.

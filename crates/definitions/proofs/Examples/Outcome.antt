@@ -7,13 +7,14 @@ use lib.Dec.{eqb}
 use lib.ListN.{take, replicate, set as put}
 use Rattle.definitions.specs.declared.Operator.the-variants.{Ge}
 use Rattle.definitions.specs.declared.Width.the-variants.{Dword, Qword}
+use Rattle.definitions.specs.declared.Fault.{Fault}
 use Rattle.definitions.specs.Word.{bytesOf, numberOf, numberAt}
 use Rattle.definitions.specs.Machine.{instructionBytes, filterBytes, instructionAt, instructionsAt, filterOf, callOf, words, fetch, codes, kindIn, kindOf, intoA, compute, testHolds, stepAs, step, run, visits}
 use Rattle.definitions.specs.Kernel.{constantTaken, operandTaken, takenAs, eachTaken, effectAs, effectOf, isReturn, endsInReturn, scratchNext, scratchTaken, accepts, acceptsBytes}
 use Rattle.definitions.specs.Emitted.{load, ifEqual, return}
 use Rattle.definitions.specs.RuleSet.{x86-64, architectureWord, Rule, Entry, killProcess, oneOf, isAction, test, holds, allHold, anyHolds, matches, listed, meaning, guarded, hasSecondTable, inSecondTable}
 use Rattle.definitions.specs.Format.{architectureNumber, widthNumber, operatorNumber, encodeCondition, encodeRule, encodeEntry, encode, architectureOf, widthOf, operatorOf, maskTaken, times, conditionAt, ruleAt, entryAt, read, unflagged, nativeOf, headNumber}
-use Rattle.definitions.specs.Answer.{all, unless, faultsOf, conditionFaults, countFaults, ruleFaults, entriesFaults, setFaults, lesser, leastOf}
+use Rattle.definitions.specs.Answer.{all, fault, nowhere, placeless, noFault, unless, faultsOf, conditionFaults, countFaults, ruleFaults, entriesFaults, setFaults, lesser, leastOf}
 use Rattle.definitions.proofs.Examples.RuleSet.{compared, allow, errno}
 use Rattle.definitions.specs.Outcome.{outcomeOf, decidedOf}
 
@@ -51,37 +52,48 @@ plain n = record { number = n; rules = [] }
 abbrev least : ℕ → Rule
 least v = compared Ge Qword 5 v 0 ∷ []
 
--- the set, the call, and the outcome's code and action
+-- a set with some entries
+abbrev listing : List Entry → List ℕ
+listing es = encode (record { architecture = x86-64; nativeOnly = false; mismatch = errno 1; onMatch = allow; entries = es })
+
+-- number 8, with a rule that is good and one that is not
+abbrev second : Rule → List ℕ
+second r = listing (plain 7 ∷ record { number = 8; rules = least 0 ∷ r ∷ [] } ∷ [])
+
+-- the set, the call, the action and the fault
 record Row : Type 0 where
   set : List ℕ
   asked : List ℕ
-  code : ℕ
   action : ℕ
+  found : Fault
 
-abbrev row : List ℕ → List ℕ → ℕ → ℕ → Row
-row s c k a = record { set = s; asked = c; code = k; action = a }
+abbrev row : List ℕ → List ℕ → ℕ → Fault → Row
+row s c a f = record { set = s; asked = c; action = a; found = f }
 
 abbrev table : List Row
 table =
     -- match, mismatch, a number that is not listed, another architecture
-    row (ruled (errno 1) (least (2 ^ 56))) call 0 allow
-    ∷ row (ruled (errno 1) (least (2 ^ 56 + 1))) call 0 (errno 1)
-    ∷ row (ruled (errno 1) (least 0)) (put call 0 8) 0 (errno 1)
-    ∷ row (ruled (errno 1) (least 0)) (put call 4 0) 0 killProcess
-    -- 1 to 5 and 8 as compiling answers
-    ∷ row [] call 1 0
-    ∷ row (encode (record { architecture = x86-64; nativeOnly = false; mismatch = errno 1; onMatch = allow; entries = plain 7 ∷ plain 7 ∷ [] })) call 2 0
-    ∷ row (ruled allow (least 0)) call 3 0
-    ∷ row (ruled (errno 1) []) call 4 0
-    ∷ row (ruled (errno 1) (compared Ge Qword 6 0 0 ∷ [])) call 5 0
-    ∷ row (ruled (errno 1) (compared Ge Dword 0 (2 ^ 32) 0 ∷ [])) call 8 0
+    row (ruled (errno 1) (least (2 ^ 56))) call allow noFault
+    ∷ row (ruled (errno 1) (least (2 ^ 56 + 1))) call (errno 1) noFault
+    ∷ row (ruled (errno 1) (least 0)) (put call 0 8) (errno 1) noFault
+    ∷ row (ruled (errno 1) (least 0)) (put call 4 0) killProcess noFault
+    -- 1 to 5 and 8 as compiling answers, with their places
+    ∷ row [] call 0 (placeless 1)
+    ∷ row (listing (plain 6 ∷ plain 7 ∷ plain 7 ∷ [])) call 0 (fault 2 2 nowhere nowhere)
+    ∷ row (ruled allow (least 0)) call 0 (placeless 3)
+    ∷ row (second []) call 0 (fault 4 1 1 nowhere)
+    ∷ row (second (compared Ge Qword 0 0 0 ∷ compared Ge Qword 6 0 0 ∷ [])) call 0 (fault 5 1 1 1)
+    ∷ row (second (compared Ge Dword 0 (2 ^ 32) 0 ∷ [])) call 0 (fault 8 1 1 0)
     -- 9 first, whatever the set
-    ∷ row (ruled (errno 1) (least 0)) (0 ∷ call) 9 0
-    ∷ row [] (take 63 call) 9 0
+    ∷ row (ruled (errno 1) (least 0)) (0 ∷ call) 0 (placeless 9)
+    ∷ row [] (take 63 call) 0 (placeless 9)
     ∷ []
 
 abbrev rowHolds : Row → Bool
-rowHolds r = let o = decidedOf (r .set) (r .asked) in eqb (o .code) (r .code) && eqb (o .action) (r .action) && eqb (o .steps) 0
+rowHolds r =
+    let d = decidedOf (r .set) (r .asked) in
+    eqb (d .action) (r .action) && eqb (d .code) (r .found .code) && eqb (d .entry) (r .found .entry) && eqb (d .rule) (r .found .rule)
+    && eqb (d .condition) (r .found .condition)
 
 decisions : all rowHolds table ≡ true
 unfolding decidedOf leastOf lesser setFaults entriesFaults ruleFaults countFaults conditionFaults faultsOf unless read entryAt ruleAt conditionAt times maskTaken operatorOf widthOf architectureOf unflagged nativeOf isAction oneOf numberAt numberOf encode encodeEntry encodeRule encodeCondition bytesOf architectureNumber headNumber widthNumber operatorNumber architectureWord meaning guarded hasSecondTable inSecondTable listed matches anyHolds allHold holds test
