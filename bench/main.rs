@@ -50,6 +50,7 @@ const LONGEST_FILTER: usize = 8 * 4096;
 const TIME_FOR_A_SET: Duration = Duration::from_millis(1500);
 const TIME_FOR_FORMS: Duration = Duration::from_millis(500);
 const LIMIT: f64 = 5e6;
+const LIMIT_OF_SEARCH: f64 = 50e6;
 const AUDIT_ARCH_X86_64: u32 = 0xc000_003e;
 
 fn ours(set: &[u8], out: &mut [u8]) -> Answer {
@@ -248,21 +249,21 @@ fn answered(compile: fn(&[u8], &mut [u8]) -> Answer, set: &[u8], count: usize) -
     (code, times[0], times[times.len() / 2])
 }
 
-// The middle one is held to the limit, but not a search's.
+// The middle one is held to the limit, a search's to its own.
 fn limit(name: &str, code: u32, set: &[u8]) -> bool {
     let (answer, best, middle) = answered(ours, set, 201);
     assert!(answer == code, "{name}: answer {answer}");
     let (of_search, _, middle_of_search) = answered(search, set, 21);
-    let good = middle < LIMIT;
-    let told = if good { "yes" } else { "NO" };
+    let [good, good_of_search] = [middle < LIMIT, middle_of_search < LIMIT_OF_SEARCH];
+    let [told, told_of_search] = [good, good_of_search].map(|good| if good { "yes" } else { "NO" });
     let size = set.len();
     println!(
-        "| {name} | {size} | {code} | {:.2} ms | {:.2} ms | {told} | {of_search} | {:.2} ms |",
+        "| {name} | {size} | {code} | {:.2} ms | {:.2} ms | {told} | {of_search} | {:.2} ms | {told_of_search} |",
         best / 1e6,
         middle / 1e6,
         middle_of_search / 1e6
     );
-    good
+    good && good_of_search
 }
 
 fn main() {
@@ -289,8 +290,8 @@ fn main() {
     println!("|---|---|---|---|");
     println!("{}", times.join("\n"));
     println!();
-    println!("| set of 1 MiB | bytes | answer | best | middle | under 5 ms | of a search: answer | middle |");
-    println!("|---|---|---|---|---|---|---|---|");
+    println!("| set of 1 MiB | bytes | answer | best | middle | under 5 ms | of a search: answer | middle | under 50 ms |");
+    println!("|---|---|---|---|---|---|---|---|---|");
     let good: Vec<bool> = rows("limit").iter().map(|(name, code, set)| limit(name, *code, set)).collect();
     std::process::exit(i32::from(good.contains(&false)));
 }

@@ -72,12 +72,17 @@ def refused():
     draw = Draw(2)
     yield "plain calls", 6, plain(range((LONGEST_SET - 16) // 8))
     yield "calls apart", 6, plain(range(0, (LONGEST_SET - 16) // 4, 2))
+    # the row is walked over at every level of a search's tree, and it is the last entries that make the search too long
+    row = (LONGEST_SET - 16) // 8 - 3500
+    yield "a row, then calls apart", 6, plain([*range(row), *range(row + 1, row + 7001, 2)])
     yield "entries of one condition", 6, (*HEAD, [(number, [[dword(number)]]) for number in range((LONGEST_SET - 16) // 36)])
     yield "rules of one condition", 6, (*HEAD, [(0, [[dword(number)] for number in range(room // 28)])])
     yield "one rule, dword conditions", 6, (*HEAD, [(0, [[dword(number) for number in range(room // 24)]])])
     yield "one rule, masked qword conditions", 6, (*HEAD, [(0, [masked(room // 24)])])
     yield "16 rules, mixed operators", 6, (*HEAD, [(0, [draw.rule(room // 16 // 24 - 1) for _ in range(16)])])
     yield "rules without conditions", 4, (*HEAD, [(0, [[]] * (room // 4))])
+    apart = [(number, []) for number in range(2, 18002, 2)]
+    yield "rules without conditions, then calls apart", 4, (*HEAD, [(0, [[]] * (room // 4 - 2 * len(apart))), *apart])
 
 
 def write(folder):

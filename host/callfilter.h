@@ -77,9 +77,9 @@ enum {
 
 /* count: with codes 0, 6 and 7 how many instructions of eight bytes the filter has, else 0.
  * entry: with 2 the one whose number is not above that of the one before it, with 6 the first with which the filter, its last return
- * included, is too long, but of a search, which does not grow by each, none, with 4, 5 and 8 the one that the fault is in. rule: with 4, 5
- * and 8, of this entry. condition: with 5 and 8, of this rule. All are counted from 0, are the first in the order of the bytes, and with
- * other codes CALLFILTER_NOWHERE. */
+ * included, is too long, with 4, 5 and 8 the one that the fault is in. rule: with 4, 5 and 8, of this entry. condition: with 5 and 8, of
+ * this rule. All are counted from 0, are the first in the order of the bytes, and with other codes CALLFILTER_NOWHERE. A search need not
+ * grow with each entry: with 6 the one that is told makes it too long, where those before it do not, but it need not be the first. */
 typedef struct {
     uint32_t code, count, entry, rule, condition;
 } callfilter_answer;

@@ -243,7 +243,9 @@ static void limits(void) {
     CHECK(answer.code == CALLFILTER_COMPILED && 8 * answer.count == CALLFILTER_LONGEST_FILTER);
     memset(filter, 0xa5, sizeof filter);
     answer = callfilter_compile_search(long_set, spread_calls(3019, 2).end, filter, sizeof filter);
-    CHECK(answered(answer, CALLFILTER_TOO_MANY_INSTRUCTIONS, 4097, NOWHERE, NOWHERE, NOWHERE) && filter_kept_from(0));
+    CHECK(answered(answer, CALLFILTER_TOO_MANY_INSTRUCTIONS, 4097, 3018, NOWHERE, NOWHERE) && filter_kept_from(0));
+    answer = callfilter_compile_search(long_set, spread_calls(131070, 2).end, filter, sizeof filter);
+    CHECK(answer.code == CALLFILTER_TOO_MANY_INSTRUCTIONS && answer.entry == 3018 && filter_kept_from(0));
 }
 
 /* what a set of one condition on argument 0 means for it */

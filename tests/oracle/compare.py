@@ -126,7 +126,7 @@ def drawn(seed, count):
 class Tally:
     def __init__(self):
         self.passed = self.calls = self.matched = self.raised = 0
-        self.searches = self.searched = self.listed = 0
+        self.searches = self.searched = self.listed = self.turned = 0
         self.natives, self.guarded = {}, {}
         self.failures = []
         self.codes = {}
@@ -167,11 +167,27 @@ def search_answer(frame, wanted, got):
     count = min(got[1], wanted[1])
     code = 6 if count >= TOO_MANY else 7 if 8 * count > room else 0
     wide = None if code or wanted[0] == 0 else first_too_wide(given)
-    return (8, 0, *wide) if wide else (code, count, NOWHERE, NOWHERE, NOWHERE)
+    # which entry makes it too long is asked of the program itself
+    return (8, 0, *wide) if wide else (code, count, got[2] if code == 6 else NOWHERE, NOWHERE, NOWHERE)
+
+
+def first_entries(given, count):
+    *head, entries = decode(given)
+    return encode((*head, entries[:count]))
+
+
+def turning(frames, given, other):
+    """Of each search that is too long, whether it is so with the entry that is told, and is not with those in front of it."""
+    places = [place for place, answer in enumerate(given) if answer and answer[0] == 6]
+    cuts = [(first_entries(frames[place][0], given[place][2] + more), PLENTY) for place in places for more in (0, 1)]
+    codes = [answer and answer[0] for answer in answers_of(other, cuts, "search")]
+    return {place: short != 6 and long == 6 for place, short, long in zip(places, codes[::2], codes[1::2])}
 
 
 def compare_searches(frames, expected, other, judge, calls, seed, tally):
     given = answers_of(other, frames, "search")
+    turns = turning(frames, given, other)
+    tally.turned += len(turns)
     places = [place for place, answer in enumerate(given) if answer and answer[0] == 0]
     results, told = build.judge(judge, [(frames[place][0], given[place][-1]) for place in places], calls, seed)
     if told:
@@ -179,7 +195,7 @@ def compare_searches(frames, expected, other, judge, calls, seed, tally):
     verdicts = dict(zip(places, results))
     for place, (frame, wanted, got) in enumerate(zip(frames, expected, given)):
         wrong, matched, refused = verdicts.get(place, (0, 0, 0))
-        good = got and got[:-1] == search_answer(frame, wanted, got) and not wrong and not refused
+        good = got and got[:-1] == search_answer(frame, wanted, got) and turns.get(place, True) and not wrong and not refused
         if place in verdicts:
             tally.searches += 1
             tally.searched += got[1]
@@ -302,7 +318,7 @@ def main():
 
     print(f"answers ({in_words(tally.codes)}); {tally.calls} calls run, {tally.matched} of them matching")
     print(f"for native numbers only, on x86_64 ({in_words(tally.guarded)}), elsewhere ({in_words(tally.natives)})")
-    print(f"{tally.searches} searches, of {tally.searched} instructions where lists have {tally.listed}")
+    print(f"{tally.searches} searches, of {tally.searched} instructions where lists have {tally.listed}; {tally.turned} too long")
     print(f"{tally.raised} filters of 4,096 instructions, which seccompiler writes only with its limit raised by one")
     show(tally.failures)
     print(f"{tally.passed} passed, {len(tally.failures)} failed")

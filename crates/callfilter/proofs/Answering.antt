@@ -1,5 +1,6 @@
 -- Laws that join what is said of a set with the answer's definition, and an answer of 0 with what may be written.
 use mathlib.Core.Path.{_≡_, refl, ap, sym, _∙_}
+use mathlib.Core.Bool.{Bool, true, false}
 use mathlib.Core.List.{List, [], _++_}
 use mathlib.Core.Option.{Option, none, some}
 use Prim.Native.Nat.{ℕ, _*_, _≤_}
@@ -10,12 +11,12 @@ use lib.ListN.{length}
 use borrow.Author.Tests.{le-leb}
 use Rattle.definitions.specs.declared.Fault.{Fault}
 use Rattle.definitions.specs.declared.Answer.{Answer}
-use Rattle.definitions.specs.Word.{AreBytes}
+use Rattle.definitions.specs.Word.{AreBytes, numberAt}
 use Rattle.definitions.specs.Machine.{filterBytes}
 use Rattle.definitions.specs.Emitted.{emitted}
 use Rattle.definitions.specs.RuleSet.{RuleSet}
 use Rattle.definitions.specs.Format.{read}
-use Rattle.definitions.specs.Answer.{fault, nowhere, placeless, unless, tooMany, filterFaults, tooLong, leastOf, countWith, answer, emittedSize, answerBy, answerOf}
+use Rattle.definitions.specs.Answer.{fault, nowhere, placeless, unless, tooMany, filterFaults, tooLong, leastOf, turnsLong, countWith, answer, emittedSize, answerBy, answerOf}
 use Rattle.definitions.specs.Compiled.{Compiled, Searched}
 use Rattle.theorems.proofs.Lengths.{length-emitted}
 use Rattle.theorems.proofs.Bytes.{length-filter}
@@ -26,6 +27,7 @@ use Rattle.search_form.specs.Search.{searchForm}
 use Rattle.search_form.specs.Counts.{searchSize}
 use Rattle.search_form.proofs.Shorter.{shorter}
 use Rattle.search_form.proofs.Searched as searched
+use Rattle.search_writer.specs.Forms.{firstHere}
 use Rattle.bpf.specs.Place.{place}
 use Rattle.set_view.specs.Parts.{setHere, Readable}
 use Rattle.set_view.proofs.Agree.{read-agrees, readable}
@@ -80,13 +82,30 @@ done-compiled set before after r bytes a z p =
 -- ---- the same, where the filter is a search
 
 abbrev pub searchAnswer : List ℕ → ℕ → Answer
-searchAnswer s room = answerBy searchSize (λ rs. nowhere) (read s) room
+searchAnswer s room = answerBy searchSize (turnsLong searchSize) (read s) room
+
+-- with as many entries as the head says, it is that of the set
+pub search-size : (s : List ℕ) (n size : ℕ) → n ≡ numberAt 4 s 12 → size ≡ searchSize (firstHere s n) → size ≡ searchSize (setHere s)
+unfolding setHere
+search-size s n size e h = h ∙ rw e
+
+-- which entry is told matters only where there are too many instructions
+told-long : (n a b room : ℕ) → (ltb n tooMany ≡ false → a ≡ b) → filterFaults n a room ≡ filterFaults n b room
+unfolding filterFaults unless
+told-long n a b room same = go (ltb n tooMany) same
+  where
+    go : (t : Bool) → (t ≡ false → a ≡ b)
+        → unless t (fault 6 a nowhere nowhere) ++ unless (leb (8 * n) room) (placeless 7)
+        ≡ unless t (fault 6 b nowhere nowhere) ++ unless (leb (8 * n) room) (placeless 7)
+    go true e = refl
+    go false e = rw (e refl)
 
 -- of a set of the format, by the length of its search form
 pub record SearchAnswer (s : List ℕ) (room : ℕ) (j : Judged) : Type 0 where
   pub reads : Readable s
   pub small : searchSize (setHere s) ≤ j .count
-  pub said : searchAnswer s room ≡ answer (searchSize (setHere s)) (leastOf (j .fault) (filterFaults (searchSize (setHere s)) nowhere room))
+  pub said : (long : ℕ) → (ltb (searchSize (setHere s)) tooMany ≡ false → long ≡ turnsLong searchSize (setHere s))
+      → searchAnswer s room ≡ answer (searchSize (setHere s)) (leastOf (j .fault) (filterFaults (searchSize (setHere s)) long room))
 
 search-by : (s : List ℕ) (room : ℕ) (x : Option RuleSet) → read s ≡ x → (judged x .fault .code ≡ 1 → ⊥) → SearchAnswer s room (judged x)
 unfolding judged
@@ -96,14 +115,14 @@ search-by s room (some rs) e h =
     record {
       reads = readable s rs e;
       small = rw (← g .0, ← length-emitted rs) (shorter rs);
-      said = rw (e, ← g .0);
+      said = λ long told. rw (e, ← g .0, told-long (searchSize rs) long (turnsLong searchSize rs) room (rw (← g .0) at told));
     }
 
 pub search-answer : (s : List ℕ) (room : ℕ) (j : Judged) → j ≡ judged (read s) → (j .fault .code ≡ 1 → ⊥) → SearchAnswer s room j
 search-answer s room j e h = rw e (search-by s room (read s) refl (rw e at h))
 
 none-by : (x : Option RuleSet) (room : ℕ) → judged x .fault .code ≡ 1
-    → answerBy searchSize (λ rs. nowhere) x room ≡ answer 0 (leastOf (judged x .fault) (filterFaults 0 nowhere room))
+    → answerBy searchSize (turnsLong searchSize) x room ≡ answer 0 (leastOf (judged x .fault) (filterFaults 0 nowhere room))
 unfolding judged
 none-by none room e = rw (no-filter _ nowhere room)
 none-by (some rs) room e = absurd (never-one rs e)
@@ -116,7 +135,7 @@ pub search-writable : (set : List ℕ) (room : ℕ) (r : Answer) → r ≡ searc
     → Readable set × (r .count ≡ searchSize (setHere set)) × (8 * r .count ≤ room)
 unfolding answer
 search-writable set room r a z =
-    let w = compiles-by searchSize (λ rs. nowhere) set room r a z in
+    let w = compiles-by searchSize (turnsLong searchSize) set room r a z in
     let count : r .count ≡ searchSize (w .0) = ap (λ (x : Answer). x .count) (w .1 .said) in
     (readable set (w .0) (w .1 .from), rw (← read-agrees set (w .0) (w .1 .from) .0) count, rw count (w .1 .fits))
 
@@ -124,6 +143,6 @@ pub done-searched : (set before after : List ℕ) (r : Answer) → AreBytes set 
     → after ≡ place before 0 (filterBytes (searchForm (setHere set))) → Searched searchSize set before after r
 unfolding place
 done-searched set before after r bytes a z p =
-    let w = compiles-by searchSize (λ rs. nowhere) set (length before) r a z in
+    let w = compiles-by searchSize (turnsLong searchSize) set (length before) r a z in
     let g = read-agrees set (w .0) (w .1 .from) in
     searched.done set before after r (w .0) bytes a (w .1) (p ∙ rw (← g .0, zero-add, length-filter (searchForm (w .0))))

@@ -1,12 +1,12 @@
 // The entry points that a host calls, exported under their C names. None asks anything of its caller: bad input gets its answer, and a
 // refusal writes nothing.
 ghost use mathlib.Core.Path.{_≡_};
-ghost use mathlib.Core.Bool.{true, not};
+ghost use mathlib.Core.Bool.{true, false, not};
 ghost use mathlib.Core.Option.{some};
-ghost use lib.Dec.{eqb};
+ghost use lib.Dec.{eqb, ltb};
 ghost use Prim.Native.Nat.{_≤_};
 ghost use Rattle.definitions.specs.Answer as answers;
-ghost use Rattle.definitions.specs.Answer.{filterFaults, leastOf};
+ghost use Rattle.definitions.specs.Answer.{filterFaults, leastOf, tooMany, turnsLong};
 ghost use Rattle.definitions.specs.Format.{read};
 ghost use Rattle.definitions.specs.Compiled.{Compiled, Searched};
 ghost use Rattle.definitions.specs.Kernel.{acceptsBytes};
@@ -15,7 +15,7 @@ ghost use Rattle.definitions.specs.Parts.{withEntry, withRule, conditionPart};
 ghost use Rattle.definitions.specs.Writers.{Started, Added};
 ghost use Rattle.definitions.specs.Readers as readers;
 ghost use Rattle.search_form.specs.Counts.{searchSize};
-ghost use Rattle.set_view.specs.Parts.{mostBytes};
+ghost use Rattle.set_view.specs.Parts.{mostBytes, Readable, setHere};
 use definitions::Answer;
 use definitions::Compared;
 use definitions::Cursor;
@@ -85,17 +85,28 @@ pub extern "C" fn callfilter_compile(set: &[u8], out: &mut [u8]) -> Answer
     r
 }
 
-// The answer for a set and a room, where the filter is a search. It does not grow entry by entry, so that none is told where it is too
-// long.
+// The entry that is told of a search of `size` instructions. Only where they are too many is it looked for.
+fn search_long(set: &[u8], size: usize) -> u32
+    requires { ⌜ Readable (now set) × (size ≡ searchSize (setHere (now set))) ⌝ }
+    ensures { λ r. ⌜ (ltb size tooMany ≡ false → r ≡ turnsLong searchSize (setHere (now (set .entry)))) ⌝ }
+{
+    if size < TOO_MANY {
+        return NOWHERE;
+    }
+    search_writer::long_entry(set)
+}
+
+// The answer for a set and a room, where the filter is a search.
 fn search_verdict(set: &[u8], room: usize) -> Answer
-    ensures { λ r. ⌜ r ≡ answers.answerBy searchSize (λ rs. answers.nowhere) (read (now (set .entry))) room ⌝ }
+    ensures { λ r. ⌜ r ≡ answers.answerBy searchSize (turnsLong searchSize) (read (now (set .entry))) room ⌝ }
 {
     let fault = judge::judge(set).fault;
     // what is not of the format has no filter
     if fault.code == 1 {
         return answer_for(fault, 0, NOWHERE, room);
     }
-    answer_for(fault, search_writer::search_length(set), NOWHERE, room)
+    let size = search_writer::search_length(set, bpf::u32_at(set, 12));
+    answer_for(fault, size, search_long(set, size), room)
 }
 
 // Compiles a rule set into a lent buffer, as a search.

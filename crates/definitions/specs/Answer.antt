@@ -11,12 +11,12 @@
 --   6  too many instructions
 --   7  the output buffer is too short
 --   8  a dword condition whose value or mask has more than 32 bits
-use Prim.Native.Nat.{ℕ, suc, _+_, _*_}
+use Prim.Native.Nat.{ℕ, zero, suc, _+_, _*_, _^_}
 use mathlib.Core.Bool.{Bool, true, false, cond, not, _&&_, _||_}
 use mathlib.Core.List.{List, [], _∷_, _++_}
 use mathlib.Core.Option.{Option, none, some}
 use lib.Dec.{eqb, leb, ltb}
-use lib.ListN.{length}
+use lib.ListN.{length, take}
 use Rattle.definitions.specs.declared.Width.{Width}
 use Rattle.definitions.specs.declared.Width.the-variants.{Dword, Qword}
 use Rattle.definitions.specs.declared.Condition.{Condition}
@@ -106,13 +106,26 @@ unfoldable pub firstWith : (List Entry → Bool) → List Entry → List Entry �
 firstWith f seen [] = 0
 firstWith f seen (e ∷ es) = cond (f (seen ++ (e ∷ []))) (suc (firstWith f (seen ++ (e ∷ [])) es)) 0
 
--- whether the emitted filter, its last return included, is short enough with these entries
-abbrev pub shortWith : RuleSet → List Entry → Bool
-shortWith rs es = ltb (length (emitted (withEntries rs es))) tooMany
+-- whether a filter of `size` instructions is short enough with these entries
+abbrev pub shortWith : (RuleSet → ℕ) → RuleSet → List Entry → Bool
+shortWith size rs es = ltb (size (withEntries rs es)) tooMany
 
--- the first entry with which it is not
+-- how many instructions are emitted, the last return included
+abbrev pub emittedSize : RuleSet → ℕ
+emittedSize rs = length (emitted rs)
+
+-- the first entry with which the emitted filter is too long
 abbrev pub tooLong : RuleSet → ℕ
-tooLong rs = firstWith (shortWith rs) [] (rs .entries)
+tooLong rs = firstWith (shortWith emittedSize rs) [] (rs .entries)
+
+-- Where a test turns, by halves: n passes and n + 2 ^ k does not, and so it is with the number that comes out and the next one.
+unfoldable pub halved : (ℕ → Bool) → ℕ → ℕ → ℕ
+halved f zero n = n
+halved f (suc k) n = halved f k (cond (f (n + 2 ^ k)) (n + 2 ^ k) n)
+
+-- an entry with which a filter gets too long that may also get shorter by one. A set has fewer than 2 ^ 17 entries.
+abbrev pub turnsLong : (RuleSet → ℕ) → RuleSet → ℕ
+turnsLong size rs = halved (λ n. shortWith size rs (take n (rs .entries))) 17 0
 
 -- ---- the least
 
@@ -141,10 +154,6 @@ answer n f = record { code = f .code; count = countWith (f .code) n; entry = f .
 abbrev pub answerBy : (RuleSet → ℕ) → (RuleSet → ℕ) → Option RuleSet → ℕ → Answer
 answerBy size long none room = answer 0 (placeless 1)
 answerBy size long (some rs) room = answer (size rs) (leastOf (refusal rs) (filterFaults (size rs) (long rs) room))
-
--- how many instructions are emitted
-abbrev pub emittedSize : RuleSet → ℕ
-emittedSize rs = length (emitted rs)
 
 -- the answer for a byte string and a buffer of `room` bytes
 unfoldable pub answerOf : List ℕ → ℕ → Answer

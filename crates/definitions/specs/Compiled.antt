@@ -13,7 +13,7 @@ use Rattle.definitions.specs.Kernel.{acceptsBytes}
 use Rattle.definitions.specs.RuleSet.{Rule, RuleSet, secondTable, guarded, meaning, spanCount, rulesOf}
 use Rattle.definitions.specs.Emitted.{emitted, entryBody}
 use Rattle.definitions.specs.Format.{encode, InRange, read}
-use Rattle.definitions.specs.Answer.{nowhere, answerBy, answerOf}
+use Rattle.definitions.specs.Answer.{turnsLong, answerBy, answerOf}
 
 -- bytes that are the byte form of a rule set
 pub record FormOf (rs : RuleSet) (set : List ℕ) : Type 0 where
@@ -62,8 +62,8 @@ guardSteps rs c = cond (guarded rs) (cond (eqb (bitAnd (c .number) secondTable) 
 
 -- what compiling into a search promises, `size` being how many instructions it makes
 pub record Searched (size : RuleSet → ℕ) (set before after : List ℕ) (r : Answer) : Type 0 where
-  -- the answer is the smallest number that applies; with 6 no entry is named, since the filter does not grow by each
-  pub answer : r ≡ answerBy size (λ rs. nowhere) (read set) (length before)
+  -- the answer is the smallest number that applies; with 6 an entry is named with which the filter gets too long
+  pub answer : r ≡ answerBy size (turnsLong size) (read set) (length before)
   -- the filter is never longer than the emitted one
   pub shorter : (rs : RuleSet) → size rs ≤ length (emitted rs)
   -- With at most 2 ^ k spans of listed numbers a run takes at most k + max 6 k instructions until the number's rules begin, or its return,

@@ -12,7 +12,7 @@ use Rattle.definitions.specs.declared.Condition.{Condition}
 use Rattle.definitions.specs.declared.Fault.{Fault}
 use Rattle.definitions.specs.RuleSet.{Rule, Entry, RuleSet, withEntries, noRules, hasSecondTable, guarded}
 use Rattle.definitions.specs.Emitted.{stepCode, stepDistance}
-use Rattle.definitions.specs.Answer.{fault, nowhere, unless, faultsOf, conditionFaults, countFaults, ruleFaults, entriesFaults, tooMany, firstWith, shortWith, tooLong, leastOf}
+use Rattle.definitions.specs.Answer.{fault, nowhere, unless, faultsOf, conditionFaults, countFaults, ruleFaults, entriesFaults, tooMany, firstWith, shortWith, emittedSize, tooLong, leastOf}
 use Rattle.theorems.specs.Length.{conditionsLength, ruleLength, bodyLength, entryLength, headLength, filterLength}
 use Rattle.theorems.specs.Length as lengths
 use Rattle.theorems.proofs.Lengths.{length-step, length-emitted}
@@ -125,7 +125,7 @@ length-more : (rs : RuleSet) (es : List Entry) (e : Entry)
 unfolding filterLength guarded
 length-more rs es e = rw (head-more (rs .nativeOnly && hasSecondTable (rs .architecture)) es e, sum-more es e) (omega arith)
 
-pub fits-by : (rs : RuleSet) (seen es : List Entry) → firstWith (shortWith rs) seen es ≡ fitting (around rs + lengths.sum entryLength seen) es
+pub fits-by : (rs : RuleSet) (seen es : List Entry) → firstWith (shortWith emittedSize rs) seen es ≡ fitting (around rs + lengths.sum entryLength seen) es
 unfolding firstWith fitting
 fits-by rs seen [] = refl
 fits-by rs seen (e ∷ es) =

@@ -12,6 +12,7 @@ pub mod Taken
 pub mod Bytes
 pub mod Examples
 pub mod Searched
+pub mod Named
 pub mod RuleCases
 pub mod RuleSteps
 pub mod RulesRight

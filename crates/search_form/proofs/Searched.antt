@@ -13,7 +13,7 @@ use Rattle.definitions.specs.Machine.{filterBytes, filterOf}
 use Rattle.definitions.specs.Kernel.{acceptsBytes}
 use Rattle.definitions.specs.RuleSet.{RuleSet}
 use Rattle.definitions.specs.Format.{InRange, read}
-use Rattle.definitions.specs.Answer.{ascending, indicesTaken, nowhere, answerBy}
+use Rattle.definitions.specs.Answer.{ascending, indicesTaken, turnsLong, answerBy}
 use Rattle.definitions.specs.Compiled.{Searched}
 use Rattle.theorems.proofs.Tests.{true-both}
 use Rattle.theorems.proofs.Bytes.{length-filter}
@@ -28,11 +28,11 @@ use Rattle.search_form.proofs.Bytes.{search-back}
 use Rattle.search_form.proofs.Shorter.{shorter}
 use Rattle.search_form.proofs.Quick.{quick}
 
-pub refused : {set before after : List ℕ} {r : Answer} → r ≡ answerBy searchSize (λ rs. nowhere) (read set) (length before) → (r .code ≡ 0 → ⊥) → after ≡ before
+pub refused : {set before after : List ℕ} {r : Answer} → r ≡ answerBy searchSize (turnsLong searchSize) (read set) (length before) → (r .code ≡ 0 → ⊥) → after ≡ before
     → Searched searchSize set before after r
 refused a h e = record { answer = a; shorter = shorter; quick = λ z. absurd (h z); behaves = compiled.refused h e }
 
-pub done : (set before after : List ℕ) (r : Answer) (rs : RuleSet) → AreBytes set → r ≡ answerBy searchSize (λ rs. nowhere) (read set) (length before)
+pub done : (set before after : List ℕ) (r : Answer) (rs : RuleSet) → AreBytes set → r ≡ answerBy searchSize (turnsLong searchSize) (read set) (length before)
     → Compiles searchSize set (length before) r rs → after ≡ filterBytes (searchForm rs) ++ drop (8 * searchSize rs) before
     → Searched searchSize set before after r
 unfolding acceptsBytes

@@ -9,9 +9,10 @@ use Rattle.definitions.specs.RuleSet.{RuleSet, meaning}
 use Rattle.definitions.specs.Emitted.{emitted}
 use Rattle.definitions.specs.Format.{InRange}
 use Rattle.definitions.specs.Answer.{ascending, indicesTaken}
+use Rattle.theorems.specs.Named.{TurnsNamed}
 use Rattle.search_form.specs.Search.{searchForm}
 use Rattle.search_form.specs.Rules.{rulesForm}
-use Rattle.search_form.specs.Counts.{searchMost}
+use Rattle.search_form.specs.Counts.{searchMost, searchSize}
 use Rattle.definitions.specs.Compiled.{guardSteps, foundSteps}
 use Rattle.definitions.specs.RuleSet.{spanCount}
 
@@ -38,6 +39,10 @@ abbrev pub Quick : Type 0
 Quick =
     (rs : RuleSet) → ascending (rs .entries) ≡ true → indicesTaken rs ≡ true → (c : Call) (k : ℕ) → spanCount (rs .entries) ≤ 2 ^ k
     → steps (searchForm rs) c ≤ searchMost k + guardSteps rs c + foundSteps rs c
+
+-- where it is too long, an entry is named with which it gets so
+abbrev pub SearchNamed : Type 0
+SearchNamed = TurnsNamed searchSize
 
 -- ---- of the form that searches rules too
 

@@ -1,3 +1,4 @@
 pub mod Planting
 pub mod Halving
 pub mod Planted
+pub mod Turning

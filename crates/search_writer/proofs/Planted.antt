@@ -1,25 +1,31 @@
 -- Laws of the tree of a whole rule set, planted in front of the code of its rules, and of the filter that they make.
-use mathlib.Core.Path.{_≡_, refl, sym, _∙_}
+use mathlib.Core.Path.{_≡_, refl, ap, sym, _∙_}
 use mathlib.Core.Bool.{false}
 use mathlib.Core.List.{List, _++_}
-use Prim.Native.Nat.{ℕ, _+_, _*_, _≤_}
+use Prim.Native.Nat.{ℕ, zero, suc, _+_, _*_, _≤_, _<_}
 use native.Mathlib.Omega.{arith}
+use lib.Dec.{ltb}
 use lib.ListN.{length, length-append, take}
-use lib.Seq.{take-length}
+use lib.Seq.{take-length, take-all}
 use Rattle.definitions.specs.declared.Instruction.{Instruction}
 use Rattle.definitions.specs.Word.{numberAt}
 use Rattle.definitions.specs.Machine.{filterBytes}
+use Rattle.definitions.specs.RuleSet.{guarded, withEntries}
+use Rattle.definitions.specs.Emitted.{headCode}
+use Rattle.definitions.specs.Answer.{tooMany, shortWith}
 use Rattle.bpf.specs.Place.{place, placeBefore}
 use Rattle.bpf.proofs.Buffer.{puts-before, before-is}
-use Rattle.list_form.proofs.Filters.{headHere, headed-is}
 use Rattle.search_form.specs.Search.{jumpReach, blockReach, bodies, toMismatch, toMatch, toRules, Tree, leaf, node, block, grow, Form, plantLeaf, openBlock, plant, ground, tree, planted, searchForm}
+use Rattle.search_form.specs.Counts.{searchSize}
 use Rattle.search_form.proofs.Sizes.{place-adds, return-adds, compare-size}
 use Rattle.search_form.proofs.Shorter.{planted-none}
 use Rattle.search_bodies.specs.Here.{bodiesHere}
 use Rattle.spans.specs.Spans.{spansHere}
-use Rattle.set_view.specs.Parts.{entriesHere, parts, setHere}
+use Rattle.set_view.specs.Parts.{behind, entriesHere, entriesPast, entryHere, entryPast, parts, setHere}
+use Rattle.set_view.specs.Names.{guardsBy, namedArchitecture}
+use Rattle.set_view.proofs.Walk.{entries-further, parts-many, parts-take}
 use Rattle.search_writer.specs.declared.Marks.{Marks}
-use Rattle.search_writer.specs.Forms.{plantedHere, Ends, Makes}
+use Rattle.search_writer.specs.Forms.{plantedHere, firstHere, Ends, Makes}
 
 -- ---- the tree in front
 
@@ -57,12 +63,45 @@ planted-bodies s n e = rw e (planted-none (numberAt 4 s 8) (numberAt 4 s 4))
 
 -- ---- the whole filter
 
-pub search-is : (s : List ℕ) → searchForm (setHere s) ≡ headHere s ++ plantedHere s (numberAt 4 s 12)
-unfolding searchForm setHere
-search-is s = headed-is s _
+-- the head that stands in front of n entries
+abbrev pub headOf : List ℕ → ℕ → List Instruction
+headOf s n = headCode (namedArchitecture (numberAt 4 s 0)) (guardsBy (numberAt 4 s 0)) n
 
-pub search-long : (s : List ℕ) → length (searchForm (setHere s)) ≡ length (headHere s) + length (plantedHere s (numberAt 4 s 12))
-search-long s = rw (search-is s) (length-append (headHere s) (plantedHere s (numberAt 4 s 12)))
+-- of its first n entries
+pub first-is : (s : List ℕ) (n : ℕ) → searchForm (firstHere s n) ≡ headOf s n ++ plantedHere s n
+unfolding searchForm setHere guarded guardsBy
+first-is s n = rw (parts-many (entryHere s) (entryPast s) n 16)
+
+pub first-long : (s : List ℕ) (n : ℕ) → searchSize (firstHere s n) ≡ length (headOf s n) + length (plantedHere s n)
+first-long s n = rw (first-is s n) (length-append (headOf s n) (plantedHere s n))
+
+-- they are the first of all; where there are not so many, all
+first-entries : (s : List ℕ) (n : ℕ) → n ≤ numberAt 4 s 12 → firstHere s n ≡ withEntries (setHere s) (take n (setHere s .entries))
+unfolding setHere
+first-entries s n h = ap (withEntries (setHere s)) (sym (parts-take (entryHere s) (entryPast s) n (numberAt 4 s 12) 16 h))
+
+pub all-entries : (s : List ℕ) (n : ℕ) → numberAt 4 s 12 < n → take n (setHere s .entries) ≡ setHere s .entries
+unfolding setHere
+all-entries s n h = take-all n _ (omega (arith, parts-many (entryHere s) (entryPast s) (numberAt 4 s 12) 16))
+
+pub short-first : (s : List ℕ) (n r : ℕ) → n ≤ numberAt 4 s 12 → r ≡ searchSize (firstHere s n)
+    → shortWith searchSize (setHere s) (take n (setHere s .entries)) ≡ ltb r tooMany
+short-first s n r h e = rw (e, first-entries s n h)
+
+-- they end where all of them do, or before
+pub first-inside : (s : List ℕ) (n all at : ℕ) → n ≤ all → entriesPast s n at ≤ entriesPast s all at
+unfolding behind
+first-inside s zero all at h = entries-further s all at
+first-inside s (suc n) zero at h = absurd (omega arith)
+first-inside s (suc n) (suc all) at h = first-inside s n all (entryPast s at) (omega arith)
+
+-- of all
+pub search-is : (s : List ℕ) → searchForm (setHere s) ≡ headOf s (numberAt 4 s 12) ++ plantedHere s (numberAt 4 s 12)
+unfolding setHere
+search-is s = first-is s (numberAt 4 s 12)
+
+pub search-long : (s : List ℕ) → length (searchForm (setHere s)) ≡ length (headOf s (numberAt 4 s 12)) + length (plantedHere s (numberAt 4 s 12))
+search-long s = rw (search-is s) (length-append (headOf s (numberAt 4 s 12)) (plantedHere s (numberAt 4 s 12)))
 
 -- the head in front of code that ends where a filter of `count` instructions does
 pub head-put : (z : List ℕ) (count : ℕ) (h p : List Instruction) → count ≡ length h + length p → 8 * count ≤ length z

@@ -10,7 +10,8 @@ use Rattle.definitions.specs.Word.{numberAt}
 use Rattle.definitions.specs.Machine.{filterBytes}
 use Rattle.bpf.specs.Place.{placeBefore}
 use Rattle.search_form.specs.Search.{Form, Spot, nearReturn, openBlock, Comparison, equal, atLeast, above, planted}
-use Rattle.set_view.specs.Parts.{entriesHere}
+use Rattle.definitions.specs.RuleSet.{RuleSet, withEntries}
+use Rattle.set_view.specs.Parts.{entriesHere, setHere}
 use Rattle.search_writer.specs.declared.Marks.{Marks}
 use Rattle.search_writer.specs.declared.Reached.{Reached}
 
@@ -77,3 +78,7 @@ pub record Grew (more : ℕ) (k r : Marks) : Type 0 where
 -- the tree of its n entries, in front of the code of their rules
 abbrev pub plantedHere : List ℕ → ℕ → List Instruction
 plantedHere s n = planted (numberAt 4 s 8) (numberAt 4 s 4) (entriesHere s n 16)
+
+-- its first n entries alone
+abbrev pub firstHere : List ℕ → ℕ → RuleSet
+firstHere s n = withEntries (setHere s) (entriesHere s n 16)

@@ -3,22 +3,27 @@
 // that counting is writing into no room at all.
 ghost use mathlib.Core.Path.{_≡_};
 ghost use mathlib.Core.List.{List, _∷_};
-ghost use mathlib.Core.Bool.{true, not, _&&_, _||_};
+ghost use mathlib.Core.Bool.{true, false, cond, not, _&&_, _||_};
 ghost use Prim.Native.Nat.{ℕ, _+_, _-_, _*_, _≤_, _<_};
 ghost use lib.Dec.{ltb};
 ghost use lib.ListN.{length, take};
 ghost use Rattle.definitions.specs.declared.Instruction.{Instruction};
 ghost use Rattle.definitions.specs.Word.{numberAt};
 ghost use Rattle.definitions.specs.Machine.{filterBytes};
+ghost use Rattle.definitions.specs.Answer.{shortWith, turnsLong};
 ghost use Rattle.bpf.specs.Place.{place, placeBefore};
 ghost use Rattle.search_form.specs.Search.{singles, away, nearPlace, nearReturn, leaf, toMismatch, plant, Comparison, compareFirst, endsBy, upTo, link, chain, grow, searchForm};
+ghost use Rattle.search_form.specs.Counts.{searchSize};
 ghost use Rattle.search_bodies.specs.Here.{bodiesHere};
 ghost use Rattle.spans.specs.Spans.{spansFrom, spanOf, destination, Stands};
 ghost use Rattle.set_view.specs.Parts.{Readable, entriesPast, mostBytes, setHere};
-ghost use Rattle.search_writer.specs.Forms.{Ends, Reaches, Ready, Grew, Makes, toReturn, openIf, codeOf, plantedHere};
+ghost use Rattle.search_writer.specs.Forms.{Ends, Reaches, Ready, Grew, Makes, toReturn, openIf, codeOf, plantedHere, firstHere};
 use definitions::Instruction;
 use spans::Run;
 use spans::Standing;
+
+// A filter of so many instructions is too long.
+const TOO_MANY: usize = 4097;
 
 // How far a comparison may have to jump.
 const JUMP_REACH: usize = 250;
@@ -358,16 +363,60 @@ fn put_searched(out: &mut [u8], s: &[u8], n: u32, count: usize)
     put_planted(out, end, s, n, total);
 }
 
-// How many instructions the search form of a rule set has.
-pub fn search_length(s: &[u8]) -> usize
-    requires { ⌜ Readable (now s) ⌝ }
-    ensures { λ r. ⌜ r ≡ length (searchForm (setHere (now (s .entry)))) ⌝ }
+// How many instructions the search form of a rule set's first n entries has, the code of their rules having `total`.
+fn length_with(s: &[u8], n: u32, total: usize) -> usize
+    requires { ⌜ Readable (now s) × (n ≤ numberAt 4 (now s) 12) ⌝ }
+    requires { ⌜ (total ≡ length (bodiesHere (now s) n 16)) × (total ≤ 1048577) ⌝ }
+    ensures { λ r. ⌜ r ≡ searchSize (firstHere (now (s .entry)) n) ⌝ }
 {
-    let n = bpf::u32_at(s, 12);
-    let total = search_bodies::bodies_length(s, n, 16);
     let mut none = [0u8; 1];
     let behind = put_planted(&mut none, 0, s, n, total);
     head::head_length(bpf::u32_at(s, 0), n) + behind
+}
+
+// The same, the code of the rules being counted first.
+pub fn search_length(s: &[u8], n: u32) -> usize
+    requires { ⌜ Readable (now s) × (n ≤ numberAt 4 (now s) 12) ⌝ }
+    ensures { λ r. ⌜ r ≡ searchSize (firstHere (now (s .entry)) n) ⌝ }
+{
+    let total = search_bodies::bodies_length(s, n, 16);
+    length_with(s, n, total)
+}
+
+// Of two numbers of entries the second, if the search form of so many is short enough; that of all is not.
+fn farther(s: &[u8], short: u32, more: u32) -> u32
+    requires { ⌜ Readable (now s) × (shortWith searchSize (setHere (now s)) (setHere (now s) .entries) ≡ false) ⌝ }
+    ensures { λ r. ⌜ r ≡ cond (shortWith searchSize (setHere (now (s .entry))) (take more (setHere (now (s .entry)) .entries))) more short ⌝ }
+{
+    if bpf::u32_at(s, 12) < more {
+        return short;
+    }
+    let total = search_bodies::bodies_length(s, more, 16);
+    // the tree only adds to the code of the rules, and making it takes longer
+    if TOO_MANY <= total {
+        return short;
+    }
+    if length_with(s, more, total) < TOO_MANY {
+        return more;
+    }
+    short
+}
+
+// An entry with which the search form gets too long, where that of all of them is: found by halves.
+pub fn long_entry(s: &[u8]) -> u32
+    requires { ⌜ Readable (now s) × (shortWith searchSize (setHere (now s)) (setHere (now s) .entries) ≡ false) ⌝ }
+    ensures { λ r. ⌜ r ≡ turnsLong searchSize (setHere (now (s .entry))) ⌝ }
+{
+    let mut short: u32 = 0;
+    let mut width: u32 = 131072;
+    let mut left: u32 = 17;
+    while left != 0 {
+        let half = width / 2;
+        short = farther(s, short, short + half);
+        width = half;
+        left = left - 1;
+    }
+    short
 }
 
 // Writes the search form of a rule set at the buffer's start. It has `count` instructions.

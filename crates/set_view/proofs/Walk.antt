@@ -6,7 +6,7 @@ use mathlib.Core.List.{List, [], _∷_}
 use Prim.Native.Nat.{ℕ, zero, suc, _+_, _-_, _*_, _≤_, _<_}
 use native.Mathlib.Omega.{arith}
 use lib.Dec.{eqb}
-use lib.ListN.{length}
+use lib.ListN.{length, take}
 use borrow.Author.Tests.{eq-eqb, eqb-true}
 use Rattle.definitions.specs.Word.{numberAt}
 use Rattle.theorems.proofs.Tests.{both-true}
@@ -29,6 +29,13 @@ module _ {A : Type 0} (here : ℕ → A) (past : ℕ → ℕ) where
   unfolding parts
   parts-many zero at = refl
   parts-many (suc n) at = ap suc (parts-many n (past at))
+
+  -- the first n of them
+  pub parts-take : (n all at : ℕ) → n ≤ all → take n (parts here past all at) ≡ parts here past n at
+  unfolding parts
+  parts-take zero all at h = refl
+  parts-take (suc n) zero at h = absurd (omega arith)
+  parts-take (suc n) (suc all) at h = ap (λ (l : List A). here at ∷ l) (parts-take n all (past at) (omega arith))
 
 module _ (past : ℕ → ℕ) where
   pub behind-more : (n at : ℕ) → (n ≡ 0 → ⊥) → behind past n at ≡ behind past (n - 1) (past at)

@@ -3,7 +3,7 @@ use mathlib.Core.Path.{_≡_, refl, ap, sym, _∙_}
 use mathlib.Core.Bool.{Bool, true, false, cond, not, _&&_, _||_, and-true, and-assoc}
 use mathlib.Core.List.{List, [], _∷_, _++_, append-assoc, append-nil}
 use mathlib.Core.Option.{Option, none, some}
-use Prim.Native.Nat.{ℕ, zero, suc, _+_, _*_, _≤_, _<_}
+use Prim.Native.Nat.{ℕ, zero, suc, _+_, _*_, _^_, _≤_, _<_}
 use native.Mathlib.Numerals.{add-one}
 use native.Mathlib.Omega.{arith}
 use lib.Dec.{eqb, leb, ltb}
@@ -15,14 +15,17 @@ use Rattle.definitions.specs.declared.Condition.{Condition}
 use Rattle.definitions.specs.declared.Fault.{Fault}
 use Rattle.definitions.specs.RuleSet.{Rule, Entry, RuleSet, withEntries, guarded, meaning, oneOf}
 use Rattle.definitions.specs.Emitted.{emitted}
-use Rattle.definitions.specs.Format.{read}
+use Rattle.definitions.specs.Format.{joined, encodeEntry, encode, InRange, read}
 use Rattle.definitions.specs.Answer as answers
-use Rattle.definitions.specs.Answer.{all, hasConditions, indexTaken, fitsWidth, tooMany, fault, nowhere, noFault, unless, setFaults, filterFaults, firstWith, shortWith, tooLong, leastOf, refusal, answer, answerOf}
+use Rattle.definitions.specs.Answer.{all, hasConditions, indexTaken, fitsWidth, tooMany, fault, nowhere, noFault, unless, setFaults, filterFaults, firstWith, shortWith, emittedSize, tooLong, halved, turnsLong, leastOf, refusal, answer, answerBy, answerOf}
 use Rattle.definitions.specs.Machine.{Call, callOf}
 use Rattle.definitions.specs.Outcome.{decided, decidedRead, decidedOf}
-use Rattle.theorems.specs.Named.{FirstFailing, FirstWith, noEntry, RuleNamed, ruleOf, NamedIn, Nowhere, refusedBy, Named, placeless, Unnamed, undecidedBy, DecidedNamed, undecided, DecidedUnnamed}
+use Rattle.theorems.specs.Named.{FirstFailing, TurnsWith, FirstWith, noEntry, RuleNamed, ruleOf, NamedIn, Nowhere, refusedBy, Named, TurnsNamed, placeless, Unnamed, undecidedBy, DecidedNamed, undecided, DecidedUnnamed}
 use Rattle.theorems.specs.Length.{filterLength}
 use Rattle.theorems.proofs.Tests.{either-true}
+use Rattle.theorems.proofs.Forms.{length-entry}
+use Rattle.theorems.proofs.Words.{length-bytes}
+use Rattle.theorems.proofs.RoundTrip.{read-written}
 use Rattle.theorems.proofs.Heads.{head-few}
 use Rattle.theorems.proofs.Lengths.{length-emitted}
 use Rattle.theorems.proofs.Faults.{lacks, has, firstOf, has-append, first-append, among-unless, own-had, own-first, other-had, other-first, alone-first, firstFailing, firstBelow, spottedIn, spottedRule, RuleRow, index-row, width-row, rule-row, empty-row, order-faults, order-place, rule-faults, rule-place}
@@ -86,7 +89,7 @@ first-with f seen (e ∷ es) h b =
         rw (p, ← n, ← same) w
     go false p rest =
         rw (p, add-zero (length seen))
-        (record { there = rw length-append (omega arith); fails = rw this p; before = b })
+        (record { turns = record { there = rw length-append (omega arith); passes = b (length seen) (omega arith); fails = rw this p }; before = λ k l. b k (omega arith) })
 
 -- by numbers: what comes next must be above the last
 ascending-more : (es : List Entry) (e f : Entry)
@@ -218,7 +221,7 @@ named-in Long rs n long room told = record {
   wide = condition-named rs n long room (rule-row width-row refl) refl refl refl (λ z. omega arith);
 }
 
-short-without : (rs : RuleSet) → shortWith rs [] ≡ true
+pub short-without : (rs : RuleSet) → shortWith emittedSize rs [] ≡ true
 unfolding filterLength
 short-without rs =
     let none : RuleSet = withEntries rs [] in
@@ -227,7 +230,59 @@ short-without rs =
 pub named : Named
 unfolding answerOf answer
 named set room rs e =
-    rw e (named-in (FirstWith (shortWith rs) (rs .entries)) rs (length (emitted rs)) (tooLong rs) room (entry-named (shortWith rs) (rs .entries) (short-without rs)))
+    rw e (named-in (FirstWith (shortWith emittedSize rs) (rs .entries)) rs (emittedSize rs) (tooLong rs) room (entry-named (shortWith emittedSize rs) (rs .entries) (short-without rs)))
+
+-- ---- by halves
+
+turns-by : (f : ℕ → Bool) (k n : ℕ) → f n ≡ true → f (n + 2 ^ k) ≡ false → (f (halved f k n) ≡ true) × (f (suc (halved f k n)) ≡ false)
+unfolding halved
+turns-by f zero n p q = (p, rw (← add-one n) q)
+turns-by f (suc k) n p q = go (f (n + 2 ^ k)) refl (turns-by f k (n + 2 ^ k)) (turns-by f k n p)
+  where
+    twice : n + 2 ^ suc k ≡ n + 2 ^ k + 2 ^ k
+    twice = omega arith
+
+    go : (t : Bool) → f (n + 2 ^ k) ≡ t
+        → (f (n + 2 ^ k) ≡ true → f (n + 2 ^ k + 2 ^ k) ≡ false → (f (halved f k (n + 2 ^ k)) ≡ true) × (f (suc (halved f k (n + 2 ^ k))) ≡ false))
+        → (f (n + 2 ^ k) ≡ false → (f (halved f k n) ≡ true) × (f (suc (halved f k n)) ≡ false))
+        → (f (halved f k (cond t (n + 2 ^ k) n)) ≡ true) × (f (suc (halved f k (cond t (n + 2 ^ k) n))) ≡ false)
+    go true e upper lower = upper e (rw (← twice) q)
+    go false e upper lower = lower e
+
+-- where it turns there is an entry: behind all of them nothing changes
+turns-there : (f : List Entry → Bool) (es : List Entry) (n : ℕ) → f (take n es) ≡ true → f (take (suc n) es) ≡ false → TurnsWith f es n
+turns-there f es n p q = record { there = go (leb (length es) n) refl; passes = p; fails = q }
+  where
+    go : (t : Bool) → leb (length es) n ≡ t → n < length es
+    go true e =
+        absurd (let l = leb-true (length es) n e in
+        let these : take n es ≡ es = take-all n es (omega arith) in
+        let those : take (suc n) es ≡ es = take-all (suc n) es (omega arith) in
+        let z : _≡_ {A = ℕ} 0 1 = cc in omega arith)
+    go false e = omega (arith, leb-false (length es) n e)
+
+turned : (f : List Entry → Bool) (es : List Entry) → length es ≤ 2 ^ 17 → f [] ≡ true → f es ≡ false
+    → TurnsWith f es (halved (λ n. f (take n es)) 17 0)
+turned f es few empty h =
+    let w = turns-by (λ n. f (take n es)) 17 0 empty (rw (take-all (2 ^ 17) es few) h) in
+    turns-there f es _ (w .0) (w .1)
+
+-- an entry has eight bytes at least
+eight : (es : List Entry) → 8 * length es ≤ length (joined encodeEntry es)
+eight [] = omega arith
+eight (e ∷ es) = let l = length-append (encodeEntry e) (joined encodeEntry es) in omega (arith, length-entry e, eight es)
+
+few-entries : (rs : RuleSet) → InRange rs → length (rs .entries) ≤ 2 ^ 17
+unfolding encode
+few-entries rs g =
+    let long : length (encode rs) ≡ 16 + length (joined encodeEntry (rs .entries)) = simp (length-append, length-bytes) (omega arith) in
+    omega (arith, g .size, eight (rs .entries))
+
+pub turns-named : (size : RuleSet → ℕ) → ((rs : RuleSet) → shortWith size rs [] ≡ true) → TurnsNamed size
+unfolding answer
+turns-named size empty set room rs bytes e =
+    rw e (named-in (TurnsWith (shortWith size rs) (rs .entries)) rs (size rs) (turnsLong size rs) room
+    (turned (shortWith size rs) (rs .entries) (few-entries rs (read-written set bytes rs e .0)) (empty rs)))
 
 -- ---- the answers that name nothing
 
@@ -245,15 +300,14 @@ unnamed-in rs n long room code h e =
     (either-true (eqb code 3) _ (λ p. nowhere-by _ 3 (actions-place rs n long room (e ∙ eqb-true code 3 p)))
     (either-true (eqb code 7) _ (λ p. nowhere-by _ 7 (room-place rs n long room (e ∙ eqb-true code 7 p))) (λ q. absurd (let z : _≡_ {A = ℕ} 0 1 = cc in omega arith))))) h
 
-unnamed-by : (x : Option RuleSet) (room code : ℕ) → oneOf placeless code ≡ true → answers.answerBy answers.emittedSize tooLong x room .code ≡ code
-    → Nowhere (refusedBy (answers.answerBy answers.emittedSize tooLong x room))
+unnamed-by : (size long : RuleSet → ℕ) (x : Option RuleSet) (room code : ℕ) → oneOf placeless code ≡ true → answerBy size long x room .code ≡ code
+    → Nowhere (refusedBy (answerBy size long x room))
 unfolding answer
-unnamed-by none room code h e = (refl, refl, refl)
-unnamed-by (some rs) room code h e = unnamed-in rs (length (emitted rs)) (tooLong rs) room code h e
+unnamed-by size long none room code h e = (refl, refl, refl)
+unnamed-by size long (some rs) room code h e = unnamed-in rs (size rs) (long rs) room code h e
 
 pub unnamed : Unnamed
-unfolding answerOf
-unnamed set room code h e = unnamed-by (read set) room code h e
+unnamed size long set room code h e = unnamed-by size long (read set) room code h e
 
 -- ---- deciding: as compiling into no instructions, which are never too many, nor too many for a buffer
 

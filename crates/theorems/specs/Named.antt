@@ -1,6 +1,6 @@
 -- That a refusal names the first part that has the fault, as statements about compiling and deciding. Proofs are in
 -- crates/theorems/proofs/Named.antt.
-use Prim.Native.Nat.{ℕ, suc, _≤_, _<_}
+use Prim.Native.Nat.{ℕ, suc, _<_}
 use mathlib.Core.Path.{_≡_}
 use mathlib.Core.Bool.{Bool, true, false}
 use mathlib.Core.List.{List, [], _∷_}
@@ -10,9 +10,10 @@ use Rattle.definitions.specs.declared.Condition.{Condition}
 use Rattle.definitions.specs.declared.Fault.{Fault}
 use Rattle.definitions.specs.declared.Answer.{Answer}
 use Rattle.definitions.specs.declared.Decision.{Decision}
+use Rattle.definitions.specs.Word.{AreBytes}
 use Rattle.definitions.specs.RuleSet.{Rule, Entry, RuleSet, oneOf}
 use Rattle.definitions.specs.Format.{read}
-use Rattle.definitions.specs.Answer.{ascending, all, hasConditions, indexTaken, fitsWidth, shortWith, fault, nowhere, answerOf}
+use Rattle.definitions.specs.Answer.{ascending, all, hasConditions, indexTaken, fitsWidth, shortWith, emittedSize, turnsLong, fault, nowhere, answerBy, answerOf}
 use Rattle.definitions.specs.Outcome.{decidedOf}
 
 -- part n is there, does not pass, and all in front of it do
@@ -21,11 +22,16 @@ pub record FirstFailing {A : Type 0} (f : A → Bool) (nothing : A) (parts : Lis
   pub fails : f (getD parts n nothing) ≡ false
   pub before : (k : ℕ) → k < n → f (getD parts k nothing) ≡ true
 
--- entry n is there, with it the entries do not pass, and with none in front of it is that so
-pub record FirstWith (f : List Entry → Bool) (entries : List Entry) (n : ℕ) : Type 0 where
+-- entry n is there, the entries in front of it pass, and with it they do not
+pub record TurnsWith (f : List Entry → Bool) (entries : List Entry) (n : ℕ) : Type 0 where
   pub there : n < length entries
+  pub passes : f (take n entries) ≡ true
   pub fails : f (take (suc n) entries) ≡ false
-  pub before : (k : ℕ) → k ≤ n → f (take k entries) ≡ true
+
+-- and it is the first
+pub record FirstWith (f : List Entry → Bool) (entries : List Entry) (n : ℕ) : Type 0 where
+  pub turns : TurnsWith f entries n
+  pub before : (k : ℕ) → k < n → f (take k entries) ≡ true
 
 abbrev pub noEntry : Entry
 noEntry = record { number = 0; rules = [] }
@@ -58,14 +64,22 @@ refusedBy r = fault (r .code) (r .entry) (r .rule) (r .condition)
 abbrev pub Named : Type 0
 Named =
     (set : List ℕ) (room : ℕ) (rs : RuleSet) → read set ≡ some rs
-    → NamedIn (FirstWith (shortWith rs) (rs .entries)) rs (refusedBy (answerOf set room))
+    → NamedIn (FirstWith (shortWith emittedSize rs) (rs .entries)) rs (refusedBy (answerOf set room))
 
--- the other answers name none: compiled, not of the format, equal actions, a buffer that is too short
+-- of a form of `size` instructions that need not grow with each entry, as a search
+abbrev pub TurnsNamed : (RuleSet → ℕ) → Type 0
+TurnsNamed size =
+    (set : List ℕ) (room : ℕ) (rs : RuleSet) → AreBytes set → read set ≡ some rs
+    → NamedIn (TurnsWith (shortWith size rs) (rs .entries)) rs (refusedBy (answerBy size (turnsLong size) (read set) room))
+
+-- the other answers name none, whatever the form: compiled, not of the format, equal actions, a buffer that is too short
 abbrev pub placeless : List ℕ
 placeless = 0 ∷ 1 ∷ 3 ∷ 7 ∷ []
 
 abbrev pub Unnamed : Type 0
-Unnamed = (set : List ℕ) (room code : ℕ) → oneOf placeless code ≡ true → answerOf set room .code ≡ code → Nowhere (refusedBy (answerOf set room))
+Unnamed =
+    (size long : RuleSet → ℕ) (set : List ℕ) (room code : ℕ) → oneOf placeless code ≡ true → answerBy size long (read set) room .code ≡ code
+    → Nowhere (refusedBy (answerBy size long (read set) room))
 
 -- ---- of deciding, where no filter is too long
 

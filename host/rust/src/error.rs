@@ -70,8 +70,8 @@ pub enum Error {
     TooManyInstructions {
         /// How many instructions it would have.
         count: u32,
-        /// The first entry with which it is too long; none of a search, which does not grow entry by entry.
-        place: Option<Place>,
+        /// The first entry with which it is too long; of a search one with which it gets too long, since it need not grow with each.
+        place: Place,
     },
     /// The set would have more than 1 MiB as bytes.
     SetTooLong,
@@ -94,8 +94,8 @@ impl Error {
     /// ```
     pub fn place(&self) -> Option<Place> {
         match self {
-            Error::NotAscending { place, .. } | Error::EmptyRule(place) => Some(*place),
-            Error::IndexAboveFive { place, .. } | Error::MoreThan32Bits { place, .. } | Error::TooManyInstructions { place, .. } => *place,
+            Error::NotAscending { place, .. } | Error::EmptyRule(place) | Error::TooManyInstructions { place, .. } => Some(*place),
+            Error::IndexAboveFive { place, .. } | Error::MoreThan32Bits { place, .. } => *place,
             _ => None,
         }
     }
@@ -135,10 +135,11 @@ impl fmt::Display for Error {
             Error::MoreThan32Bits { number, .. } => {
                 write!(to, "a dword condition looks at 32 bits, and {number:#x} has more; compare a qword, or cut the number")
             }
-            Error::TooManyInstructions { count, place } => {
-                let whole = if place.is_some() { "with it the filter gets too long; in all it" } else { "the filter" };
-                write!(to, "{whole} would have {count} instructions, and at most 4096 are compiled: list fewer calls or conditions")
-            }
+            Error::TooManyInstructions { count, .. } => write!(
+                to,
+                "with it the filter gets too long; in all it would have {count} instructions, and at most 4096 are compiled: list fewer \
+                 calls or conditions"
+            ),
             Error::SetTooLong => write!(to, "the rule set would have more than 1 MiB as bytes: list fewer calls or conditions"),
             Error::NotTaken => write!(
                 to,

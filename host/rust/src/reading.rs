@@ -34,10 +34,7 @@ pub(crate) fn refusal(answer: Answer, set: &[u8]) -> Error {
         boundary::INDEX_ABOVE_FIVE | boundary::MORE_THAN_32_BITS => parts
             .condition(answer.entry as usize, answer.rule as usize, answer.condition as usize)
             .expect_err("no condition can be made of what compiling refuses"),
-        boundary::TOO_MANY_INSTRUCTIONS => {
-            let place = (answer.entry != boundary::NOWHERE).then(|| parts.place(answer));
-            Error::TooManyInstructions { count: answer.count, place }
-        }
+        boundary::TOO_MANY_INSTRUCTIONS => Error::TooManyInstructions { count: answer.count, place: parts.place(answer) },
         _ => Error::NotOfTheFormat,
     }
 }

@@ -170,10 +170,10 @@ fn a_filter_that_is_too_long_is_counted() {
     longest.call(816).rule(&[Condition::new(0, Width::Qword, Operator::MaskedEq(1), 1).unwrap()]);
     assert_eq!(longest.compile().unwrap().len(), 4096);
     for (number, count) in [(900, 4101), (901, 4106)] {
-        assert_eq!(longest.call(number).compile(), Err(Error::TooManyInstructions { count, place: Some(in_entry(817, 900)) }));
+        assert_eq!(longest.call(number).compile(), Err(Error::TooManyInstructions { count, place: in_entry(817, 900) }));
     }
     set.call(818);
-    assert_eq!(set.compile(), Err(Error::TooManyInstructions { count: 4100, place: Some(in_entry(818, 818)) }));
+    assert_eq!(set.compile(), Err(Error::TooManyInstructions { count: 4100, place: in_entry(818, 818) }));
     // it has a meaning and a byte form all the same
     assert_eq!(set.decide(&Call::new(Architecture::X86_64, 818, [0; 6])), Ok(Action::Allow));
     assert_eq!(RuleSet::from_bytes(&set.to_bytes().unwrap()).as_ref(), Ok(&set));
@@ -181,7 +181,7 @@ fn a_filter_that_is_too_long_is_counted() {
     let mut bytes = set.call(900).rule(&[condition()]).to_bytes().unwrap();
     let value = bytes.len() - 16;
     bytes[value + 4] = 1;
-    assert_eq!(Filter::compile(&bytes), Err(Error::TooManyInstructions { count: 4107, place: Some(in_entry(818, 818)) }));
+    assert_eq!(Filter::compile(&bytes), Err(Error::TooManyInstructions { count: 4107, place: in_entry(818, 818) }));
     let refused = Error::MoreThan32Bits { number: 1 << 32 | 1, place: Some(in_condition(819, 900, 0, 0)) };
     assert_eq!(RuleSet::from_bytes(&bytes), Err(refused));
 }
@@ -201,11 +201,11 @@ fn a_guard_counts_into_the_length() {
         set
     };
     assert_eq!((listing(818).compile().unwrap().len(), native(817).compile().unwrap().len()), (4095, 4093));
-    let refused = Error::TooManyInstructions { count: 4098, place: Some(in_entry(817, 817)) };
+    let refused = Error::TooManyInstructions { count: 4098, place: in_entry(817, 817) };
     assert_eq!(native(818).compile(), Err(refused));
     // a set that is too long is read back with its flag
     let bytes = native(900).to_bytes().unwrap();
-    assert_eq!(Filter::compile(&bytes), Err(Error::TooManyInstructions { count: 4508, place: Some(in_entry(817, 817)) }));
+    assert_eq!(Filter::compile(&bytes), Err(Error::TooManyInstructions { count: 4508, place: in_entry(817, 817) }));
     assert!(RuleSet::from_bytes(&bytes) == Ok(native(900)));
 }
 
@@ -226,7 +226,7 @@ fn what_stands_beside_the_flag_is_refused() {
 }
 
 #[test]
-fn a_search_that_is_too_long_is_counted_without_an_entry() {
+fn a_search_that_is_too_long_is_counted() {
     // a span each, so that there is a question for each
     let spread = |count: u32| {
         let mut set = plain();
@@ -237,19 +237,21 @@ fn a_search_that_is_too_long_is_counted_without_an_entry() {
     };
     assert_eq!(spread(3018).compile_search().unwrap().len(), 4096);
     let refused = spread(3019).compile_search().unwrap_err();
-    assert_eq!(refused, Error::TooManyInstructions { count: 4097, place: None });
-    assert_eq!(refused.place(), None);
+    assert_eq!(refused, Error::TooManyInstructions { count: 4097, place: in_entry(3018, 6036) });
     assert_eq!(
         refused.to_string(),
-        "the filter would have 4097 instructions, and at most 4096 are compiled: list fewer calls or conditions"
+        "entry 3018 (call 6036): with it the filter gets too long; in all it would have 4097 instructions, and at most 4096 are compiled: list \
+         fewer calls or conditions"
     );
     assert_eq!(Filter::compile_search(&spread(3019).to_bytes().unwrap()), Err(refused));
+    // whatever stands behind it
+    assert_eq!(spread(90_000).compile_search().unwrap_err().place(), Some(in_entry(3018, 6036)));
     // one span, however many
     let mut row = plain();
     for number in 0..819 {
         row.call(number);
     }
-    assert_eq!(row.compile(), Err(Error::TooManyInstructions { count: 4100, place: Some(in_entry(818, 818)) }));
+    assert_eq!(row.compile(), Err(Error::TooManyInstructions { count: 4100, place: in_entry(818, 818) }));
     assert_eq!(row.compile_search().unwrap().len(), 7);
 }
 
@@ -349,10 +351,10 @@ fn errors_are_told_as_errors() {
             "entry 3 (call 257), rule 0, condition 2: a dword condition looks at 32 bits, and 0x100000000 has more",
         ),
         (
-            Error::TooManyInstructions { count: 4100, place: Some(in_entry(818, 818)) },
+            Error::TooManyInstructions { count: 4100, place: in_entry(818, 818) },
             "entry 818 (call 818): with it the filter gets too long",
         ),
-        (Error::TooManyInstructions { count: 4100, place: Some(in_entry(818, 818)) }, "4100 instructions, and at most 4096 are compiled"),
+        (Error::TooManyInstructions { count: 4100, place: in_entry(818, 818) }, "4100 instructions, and at most 4096 are compiled"),
         (Error::AlwaysAndByRules(5), "call 5 is listed without rules, to match always, and once more with rules"),
         (Error::SetTooLong, "more than 1 MiB"),
         (Error::NotTaken, "the kernel would not take these bytes as a filter"),

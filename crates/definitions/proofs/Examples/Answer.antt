@@ -3,7 +3,7 @@ use mathlib.Core.Path.{_≡_, refl}
 use mathlib.Core.Bool.{Bool, true, false, _&&_}
 use mathlib.Core.List.{List, [], _∷_, _++_}
 use mathlib.Core.Option.{some}
-use Prim.Native.Nat.{ℕ, _+_, _-_, _^_}
+use Prim.Native.Nat.{ℕ, _+_, _-_, _*_, _^_}
 use lib.Dec.{eqb, ltb}
 use lib.ListN.{length, take, replicate, set as put}
 use Rattle.definitions.specs.declared.Operator.the-variants.{Eq, Ge, MaskedEq}
@@ -14,7 +14,7 @@ use Rattle.definitions.specs.declared.Answer.{Answer}
 use Rattle.definitions.specs.Word.{bytesOf, numberOf, numberAt}
 use Rattle.definitions.specs.RuleSet.{x86-64, aarch64, architectureWord, oneOf, isAction, Rule, Entry, RuleSet, guarded, hasSecondTable}
 use Rattle.definitions.specs.Format.{architectureNumber, widthNumber, operatorNumber, encodeCondition, encodeRule, encodeEntry, encode, architectureOf, widthOf, operatorOf, maskTaken, times, conditionAt, ruleAt, entryAt, read, unflagged, nativeOf, headNumber}
-use Rattle.definitions.specs.Answer.{all, fault, nowhere, placeless, noFault, unless, faultsOf, conditionFaults, countFaults, ruleFaults, entriesFaults, setFaults, filterFaults, firstWith, shortWith, lesser, leastOf, answer, answerBy, answerOf}
+use Rattle.definitions.specs.Answer.{all, fault, nowhere, placeless, noFault, unless, faultsOf, conditionFaults, countFaults, ruleFaults, entriesFaults, setFaults, filterFaults, firstWith, shortWith, lesser, leastOf, answer, answerBy, answerOf, emittedSize, halved, turnsLong}
 use Rattle.definitions.specs.Emitted.{highTests, lowTests, highPart, lowPart, conditionCode, helpers, near, stepCode, stepDistance, conditionsCode, distance, ruleCode, ruleBody, bodyCode, entryCode, numbersCode, emitted, headCode, numberCode}
 use Rattle.definitions.proofs.Examples.RuleSet.{compared, allow, errno}
 
@@ -183,10 +183,20 @@ unfolding leastOf lesser setFaults entriesFaults ruleFaults countFaults conditio
 places = refl
 
 -- 4,096 instructions are short enough, one more is not: five for each number, five around them, eleven and twelve for the last
-longest : (shortWith smallest (replicate 816 (plain 0) ++ ruled (compared MaskedEq Qword 0 1 1 ∷ [])) ≡ true)
-    × (shortWith smallest (replicate 816 (plain 0) ++ ruled (compared MaskedEq Dword 0 1 1 ∷ compared Eq Qword 0 1 0 ∷ [])) ≡ false)
+longest : (shortWith emittedSize smallest (replicate 816 (plain 0) ++ ruled (compared MaskedEq Qword 0 1 1 ∷ [])) ≡ true)
+    × (shortWith emittedSize smallest (replicate 816 (plain 0) ++ ruled (compared MaskedEq Dword 0 1 1 ∷ compared Eq Qword 0 1 0 ∷ [])) ≡ false)
 unfolding emitted headCode numberCode guarded hasSecondTable numbersCode entryCode bodyCode ruleCode ruleBody conditionsCode distance stepCode stepDistance helpers near conditionCode highPart lowPart highTests lowTests
 longest = (refl, refl)
+
+-- by halves, where 0, 1, 2 and 4 pass: 4 does and 5 does not, though 3 did not before
+turned : halved (oneOf (0 ∷ 1 ∷ 2 ∷ 4 ∷ [])) 3 0 ≡ 4
+unfolding halved oneOf
+turned = refl
+
+-- 1,000 instructions for each entry: four are short enough
+long-by : turnsLong (λ (rs : RuleSet). 1000 * length (rs .entries)) (record { architecture = x86-64; nativeOnly = false; mismatch = errno 1; onMatch = allow; entries = replicate 9 (plain 0) }) ≡ 4
+unfolding halved
+long-by = refl
 
 too-long : firstWith (λ (es : List Entry). ltb (length es) 3) [] (replicate 5 (plain 0)) ≡ 2
 unfolding firstWith
