@@ -94,11 +94,12 @@ void show_difference(const question *q, int at, judge by, const char *name);
 _Noreturn void fail(const char *why);                           // the whole test, where it cannot be made
 bool ended_with(uint64_t passed, uint64_t failed);              // prints the last line
 
-// ---- programs.c, sets.c, supervisor.c and native.c: the parts, each ending with its line 'N passed, M failed'
+// ---- programs.c, sets.c, supervisor.c, native.c and stack.c: the parts, each ending with its line 'N passed, M failed'
 
 bool compare_programs(batch *asked, uint64_t seed, uint64_t first, uint64_t count);
 bool compare_sets(batch *asked, uint64_t seed, uint64_t first);
 bool compare_supervisor(void);
 bool compare_native(batch *asked);
+bool compare_stack(void);
 
 #endif

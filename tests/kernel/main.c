@@ -4,6 +4,7 @@
 //     compare sets SEED FIRST              rule sets and calls from standard input, for both forms of compiling and callfilter_decide
 //     compare supervisor                   sets that hand calls to a supervisor
 //     compare native                       sets for native numbers only, and numbers around the second table of x86_64
+//     compare stack                        how many compiled filters a process may have
 
 #include "kernel.h"
 #include <stdio.h>
@@ -17,5 +18,6 @@ int main(int count, char **words) {
     if (count == 4 && strcmp(words[1], "sets") == 0) return !compare_sets(kernel_ready(), seed, first);
     if (count == 2 && strcmp(words[1], "supervisor") == 0) return !compare_supervisor();
     if (count == 2 && strcmp(words[1], "native") == 0) return !compare_native(kernel_ready());
-    fail("usage: compare programs SEED FIRST COUNT, compare sets SEED FIRST, compare supervisor, or compare native");
+    if (count == 2 && strcmp(words[1], "stack") == 0) return !compare_stack();
+    fail("usage: compare programs SEED FIRST COUNT, compare sets SEED FIRST, compare supervisor, compare native, or compare stack");
 }

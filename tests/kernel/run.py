@@ -1,6 +1,6 @@
 #!/usr/bin/env python3
 """Holds the proved functions to the kernel of this machine, by seccomp(2): random filters and calls, then compiled rule sets and calls,
-then sets that hand calls to a supervisor, then sets for native numbers only.
+then sets that hand calls to a supervisor, sets for native numbers only, and how many filters a process may stack.
 Where a filter cannot be installed or the program not be built, that is a failure: nothing else here knows the real kernel.
 
     run.py [--seed N] [--programs N] [--sets N]
@@ -59,6 +59,11 @@ def native(compare):
     return run([compare, "native"])
 
 
+def stack(compare):
+    print("-- filters on one process", flush=True)
+    return run([compare, "stack"])
+
+
 def main():
     parser = argparse.ArgumentParser()
     parser.add_argument("--seed", type=int, default=20240501)
@@ -80,7 +85,7 @@ def main():
         results = [sets(compare, options.seed, options.set, 1)]
     else:
         results = [programs(compare, options.seed, 0, options.programs), sets(compare, options.seed, 0, options.sets), supervisor(compare)]
-        results.append(native(compare))
+        results += [native(compare), stack(compare)]
     passed, failed, skipped = map(sum, zip(*results))
     print(f"{passed} passed, {failed} failed" + (f", {skipped} skipped" if skipped else ""))
     return 1 if failed else 0

@@ -1,5 +1,7 @@
--- The checks that the kernel makes before it takes a filter, in full. Written from seccomp(2), linux/filter.h and the kernel's
--- own account of its checks (bpf_check_classic, and seccomp's list of allowed codes).
+-- The checks that the kernel makes of a filter's instructions before it takes it, all of them. Written from seccomp(2), linux/filter.h
+-- and the kernel's own account of its checks (bpf_check_classic, and seccomp's list of allowed codes). What else it asks when a filter is
+-- installed is not here, because it is not of the filter: that the process may install one, and that all of its filters together are not
+-- too long.
 use Prim.Native.Nat.{ℕ, suc, _+_, _%_}
 use mathlib.Core.Bool.{Bool, true, false, cond, not, _&&_, _||_}
 use mathlib.Core.List.{List, [], _∷_}
