@@ -44,6 +44,16 @@ number-8 s at h =
       number-in 4 3 s at (omega arith),
     )
 
+-- four stores one after the other
+pub stores-4 : (l : List ℕ) (at a b c d : ℕ) → at + 4 ≤ length l
+    → set (set (set (set l at a) (at + 1) b) (at + 2) c) (at + 3) d ≡ place l at (a ∷ b ∷ c ∷ d ∷ [])
+unfolding place
+stores-4 l at a b c d fits =
+    let e1 : at + 1 ≡ suc at = omega arith in
+    let e2 : at + 2 ≡ suc (suc at) = omega arith in
+    let e3 : at + 3 ≡ suc (suc (suc at)) = omega arith in
+    rw (e1, e2, e3) (sets-eq (a ∷ b ∷ c ∷ d ∷ []) l at fits)
+
 -- eight stores one after the other
 pub stores-8 : (l : List ℕ) (at a b c d e f g h : ℕ) → at + 8 ≤ length l
     → set (set (set (set (set (set (set (set l at a) (at + 1) b) (at + 2) c) (at + 3) d) (at + 4) e) (at + 5) f) (at + 6) g) (at + 7) h
@@ -79,6 +89,26 @@ place-append l at a b h =
     let d : drop (at + length a + length b) (take at l ++ a ++ drop (at + length a) l) ≡ drop (at + length a + length b) l =
     rw (← n, drop-append-add, n, drop-drop) in
     rw (t, d, length-append) (simp (append-assoc, add-assoc))
+
+-- a run of bytes behind another
+pub place-next : (l : List ℕ) (at next : ℕ) (a b : List ℕ) → next ≡ at + length a → next + length b ≤ length l
+    → place (place l at a) next b ≡ place l at (a ++ b)
+place-next l at next a b e h = rw e (place-append l at a b (omega arith))
+
+-- what stands behind is as it was
+pub drop-place : (l : List ℕ) (at n : ℕ) (bs : List ℕ) → at + length bs ≤ n → n ≤ length l → drop n (place l at bs) ≡ drop n l
+unfolding place
+drop-place l at n bs h k =
+    let long : length (take at l ++ bs) ≡ at + length bs = simp (length-append, length-take) (omega arith) in
+    let more : n ≡ length (take at l ++ bs) + (n - (at + length bs)) = omega arith in
+    let rest : at + length bs + (n - (at + length bs)) ≡ n = omega arith in
+    rw more (drop-append-add (take at l ++ bs) (drop (at + length bs) l) (n - (at + length bs)) ∙ rw (drop-drop, long))
+
+-- two numbers of four bytes
+pub put-two : (l : List ℕ) (at a b : ℕ) → at + 8 ≤ length l
+    → place (place l at (bytesOf 4 a)) (at + 4) (bytesOf 4 b) ≡ place l at (bytesOf 4 a ++ bytesOf 4 b)
+unfolding bytesOf
+put-two l at a b h = place-next l at (at + 4) (bytesOf 4 a) (bytesOf 4 b) refl (omega arith)
 
 -- ---- instructions
 

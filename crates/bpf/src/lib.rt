@@ -1,9 +1,9 @@
-// Numbers read from bytes, lowest byte first, and instructions made and written as eight bytes.
+// Numbers read from bytes and written as bytes, lowest byte first, and instructions made and written as eight bytes.
 // Room and place are the caller's to show, so that nothing here is tested twice.
 ghost use mathlib.Core.Path.{_≡_};
 ghost use Prim.Native.Nat.{_+_, _≤_, _<_};
 ghost use lib.ListN.{length};
-ghost use Rattle.definitions.specs.Word.{numberAt};
+ghost use Rattle.definitions.specs.Word.{bytesOf, numberAt};
 ghost use Rattle.definitions.specs.Machine.{instructionBytes};
 ghost use Rattle.definitions.specs.Emitted as emitted;
 ghost use Rattle.bpf.specs.Place.{place};
@@ -37,6 +37,17 @@ pub fn u64_at(s: &[u8], at: usize) -> u64
     ensures { λ r. ⌜ r ≡ numberAt 8 (now (s .entry)) at ⌝ }
 {
     long(u32_at(s, at)) + 4294967296 * long(u32_at(s, at + 4))
+}
+
+// Writes the low four bytes of a number at a place, and leaves the rest as it was.
+pub fn write_u32(out: &mut [u8], at: usize, v: u64)
+    requires { ⌜ at + 4 ≤ length (now out) ⌝ }
+    ensures { λ _. ⌜ now (out .exit) ≡ place (now (out .entry)) at (bytesOf 4 v) ⌝ }
+{
+    out[at] = (v % 256) as u8;
+    out[at + 1] = (v / 256 % 256) as u8;
+    out[at + 2] = (v / 256 / 256 % 256) as u8;
+    out[at + 3] = (v / 256 / 256 / 256 % 256) as u8;
 }
 
 pub fn load(k: u32) -> Instruction

@@ -1,33 +1,14 @@
 -- Laws of bytes put into a buffer.
 use mathlib.Core.Path.{_≡_, refl, ap, _∙_, sym}
 use mathlib.Core.List.{List, [], _∷_, _++_, append-assoc}
-use Prim.Native.Nat.{ℕ, suc, _+_, _-_, _/_, _^_, _≤_, _<_}
+use Prim.Native.Nat.{ℕ, _+_, _/_, _^_, _≤_, _<_}
 use native.Mathlib.Omega.{arith}
-use lib.ListN.{length, take, drop, set, length-append, length-take}
-use lib.Seq.{sets-eq, take-at, drop-at, drop-append-add, drop-drop}
+use lib.ListN.{length, take, drop, length-append, length-take}
+use lib.Seq.{take-at, drop-at, drop-append-add}
 use Rattle.definitions.specs.Word.{bytesOf, numberAt}
 use Rattle.theorems.proofs.Words.{length-bytes, number-here, number-front}
 use Rattle.bpf.specs.Place.{place}
-use Rattle.bpf.proofs.Buffer.{length-place, place-append}
-
--- four stores one after the other
-pub stores-4 : (l : List ℕ) (at a b c d : ℕ) → at + 4 ≤ length l
-    → set (set (set (set l at a) (at + 1) b) (at + 2) c) (at + 3) d ≡ place l at (a ∷ b ∷ c ∷ d ∷ [])
-unfolding place
-stores-4 l at a b c d fits =
-    let e1 : at + 1 ≡ suc at = omega arith in
-    let e2 : at + 2 ≡ suc (suc at) = omega arith in
-    let e3 : at + 3 ≡ suc (suc (suc at)) = omega arith in
-    rw (e1, e2, e3) (sets-eq (a ∷ b ∷ c ∷ d ∷ []) l at fits)
-
--- a run of bytes behind another
-place-next : (l : List ℕ) (at next : ℕ) (a b : List ℕ) → next ≡ at + length a → next + length b ≤ length l
-    → place (place l at a) next b ≡ place l at (a ++ b)
-place-next l at next a b e h = rw e (place-append l at a b (omega arith))
-
-pub put-two : (l : List ℕ) (at a b : ℕ) → at + 8 ≤ length l
-    → place (place l at (bytesOf 4 a)) (at + 4) (bytesOf 4 b) ≡ place l at (bytesOf 4 a ++ bytesOf 4 b)
-put-two l at a b h = place-next l at (at + 4) (bytesOf 4 a) (bytesOf 4 b) (rw length-bytes) (simp length-bytes (omega arith))
+use Rattle.bpf.proofs.Buffer.{length-place, place-next, put-two, drop-place}
 
 pub put-four : (l : List ℕ) (a b c d : ℕ) → 16 ≤ length l
     → place (place (place (place l 0 (bytesOf 4 a)) 4 (bytesOf 4 b)) 8 (bytesOf 4 c)) 12 (bytesOf 4 d)
@@ -52,15 +33,6 @@ put-long l at names v m e h =
 pub take-front : (l bs : List ℕ) (n : ℕ) → length bs ≡ n → take n (place l 0 bs) ≡ bs
 unfolding place
 take-front l bs n e = take-at bs (drop (0 + length bs) l) n e
-
--- what stands behind is as it was
-pub drop-place : (l : List ℕ) (at n : ℕ) (bs : List ℕ) → at + length bs ≤ n → n ≤ length l → drop n (place l at bs) ≡ drop n l
-unfolding place
-drop-place l at n bs h k =
-    let long : length (take at l ++ bs) ≡ at + length bs = simp (length-append, length-take) (omega arith) in
-    let more : n ≡ length (take at l ++ bs) + (n - (at + length bs)) = omega arith in
-    let rest : at + length bs + (n - (at + length bs)) ≡ n = omega arith in
-    rw more (drop-append-add (take at l ++ bs) (drop (at + length bs) l) (n - (at + length bs)) ∙ rw (drop-drop, long))
 
 -- a long number is two short ones
 pub bytes-8 : (v : ℕ) → bytesOf 8 v ≡ bytesOf 4 v ++ bytesOf 4 (v / 256 / 256 / 256 / 256)

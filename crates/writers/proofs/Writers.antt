@@ -21,10 +21,10 @@ use Rattle.theorems.proofs.Tests.{some-same, then-some, both-true}
 use Rattle.theorems.proofs.Names.{head-forth}
 use Rattle.theorems.proofs.Forms.{length-condition, length-rule, length-entry, short-count}
 use Rattle.bpf.specs.Place.{place}
-use Rattle.bpf.proofs.Buffer.{length-place}
+use Rattle.bpf.proofs.Buffer.{length-place, drop-place}
 use Rattle.readers.specs.Tests.{conditionGood}
 use Rattle.writers.specs.Bytes.{headBytes, conditionBytes}
-use Rattle.writers.proofs.Stores.{raised, length-added, kept-behind, take-front, drop-place}
+use Rattle.writers.proofs.Stores.{raised, length-added, kept-behind, take-front}
 use Rattle.writers.proofs.Codes.{Taken, code-zero}
 use Rattle.writers.proofs.Names.{condition-named, length-numbers, part-there}
 use Rattle.writers.proofs.Sets.{on-last, length-last, joined-last, each-last, last-each, heading, lead, track, length-lead, length-track, encode-entries, encode-rules, encode-conditions, ended, form-added}

@@ -12,18 +12,8 @@ ghost use Rattle.definitions.specs.Parts.{withEntry, withRule, conditionPart};
 ghost use Rattle.definitions.specs.Writers.{stateFits, codeFor, Started, Added};
 ghost use Rattle.bpf.specs.Place.{place};
 ghost use Rattle.writers.specs.Bytes.{headBytes, namesBytes, conditionBytes};
+use bpf::write_u32;
 use definitions::Writer;
-
-// Writes the low four bytes of a number at a place.
-fn write_u32(out: &mut [u8], at: usize, v: u64)
-    requires { ⌜ at + 4 ≤ length (now out) ⌝ }
-    ensures { λ _. ⌜ now (out .exit) ≡ place (now (out .entry)) at (bytesOf 4 v) ⌝ }
-{
-    out[at] = (v % 256) as u8;
-    out[at + 1] = (v / 256 % 256) as u8;
-    out[at + 2] = (v / 256 / 256 % 256) as u8;
-    out[at + 3] = (v / 256 / 256 / 256 % 256) as u8;
-}
 
 fn write_u64(out: &mut [u8], at: usize, v: u64)
     requires { ⌜ at + 8 ≤ length (now out) ⌝ }

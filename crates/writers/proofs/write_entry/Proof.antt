@@ -1,6 +1,6 @@
 -- `write_entry` meets its contract: two numbers, one behind the other.
 use native.Mathlib.Omega.{arith}
-use Rattle.writers.proofs.Stores.{put-two}
+use Rattle.bpf.proofs.Buffer.{put-two}
 use borrow.Author.Needs.{needs}
 use Rattle.writers.proofs.write_entry.Statement.{statement}
 use Rattle.writers.proofs.write_entry.Tie as tie

@@ -2,10 +2,10 @@
 use native.Mathlib.Omega.{arith}
 use lib.ListN.{length-set}
 use Rattle.definitions.specs.Word.{bytesOf}
-use Rattle.writers.proofs.Stores.{stores-4}
+use Rattle.bpf.proofs.Buffer.{stores-4}
 use borrow.Author.Needs.{needs}
-use Rattle.writers.proofs.write_u32.Statement.{statement}
-use Rattle.writers.proofs.write_u32.Tie as tie
+use Rattle.bpf.proofs.write_u32.Statement.{statement}
+use Rattle.bpf.proofs.write_u32.Tie as tie
 
 cast-out : tie.Need-cast-out
 cast-out c = search needs
