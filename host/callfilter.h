@@ -175,17 +175,22 @@ callfilter_compared callfilter_next_condition(const uint8_t *set, size_t set_len
 
 /* ---- asking, without a kernel */
 
-/* of decide, the codes 1 to 5 and 8 are those of compiling */
+/* of decide, the codes 1 to 5 and 8 are those of compiling; of run_all, 7 says that out has less than 8 bytes for each call */
 enum {
     CALLFILTER_RETURNED = 0,
-    CALLFILTER_NOT_TAKEN = 1, /* of run: the kernel would not take the filter */
-    CALLFILTER_NOT_A_CALL = 9 /* the call is not 64 bytes */
+    CALLFILTER_NOT_TAKEN = 1, /* of run and run_all: the kernel would not take the filter */
+    CALLFILTER_NOT_A_CALL = 9 /* the call is not 64 bytes, or the calls are not 64 each; comes before all else */
 };
 
 /* action: the word that is returned; steps: how many instructions were executed; both 0 unless the code is 0 */
 typedef struct {
     uint32_t code, action, steps;
 } callfilter_outcome;
+
+/* the same of one call among many, as it stands in the bytes that are written */
+typedef struct {
+    uint32_t action, steps;
+} callfilter_ran;
 
 /* action: 0 unless the code is 0; entry, rule, condition: the place of the fault, as in callfilter_answer */
 typedef struct {
@@ -199,6 +204,10 @@ bool callfilter_accepts(const uint8_t *filter, size_t filter_len);
 /* What the filter returns for a call, and after how many instructions, as the definitions' machine runs it.
  * A filter that callfilter_accepts takes always returns (0); any other is not run (1). */
 callfilter_outcome callfilter_run(const uint8_t *filter, size_t filter_len, const uint8_t *call, size_t call_len);
+
+/* What the filter returns for each of many calls, 64 bytes each, one behind the other: the kernel's checks are made once for all of them.
+ * With 0 out begins with a callfilter_ran for each call, in their order, and the rest stays. Refusing (9, 1 or 7), it writes nothing. */
+uint32_t callfilter_run_all(const uint8_t *filter, size_t filter_len, const uint8_t *calls, size_t calls_len, uint8_t *out, size_t out_len);
 
 /* What the set means for a call, straight from the bytes of both: where the set compiles, its filter returns this action for the call.
  * A set in which compiling refuses something (1 to 5, 8) gets that number and place; one whose filter is too long has its meaning. */

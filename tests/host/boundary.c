@@ -306,8 +306,10 @@ static void asked(void) {
     size_t size = 8 * (size_t)callfilter_compile(WORKED_SET, sizeof WORKED_SET, filter, sizeof filter).count;
     CHECK(callfilter_accepts(filter, size));
     CHECK(!callfilter_accepts(filter, size - 1) && !callfilter_accepts(filter, 8) && !callfilter_accepts(filter, 0));
+    enum { COUNT = sizeof calls / sizeof calls[0] };
+    static uint8_t all[COUNT * CALLFILTER_CALL_SIZE];
     uint8_t call[CALLFILTER_CALL_SIZE];
-    for (size_t at = 0; at < sizeof calls / sizeof calls[0]; at++) {
+    for (size_t at = 0; at < COUNT; at++) {
         memset(call, 0, sizeof call);
         put(call, calls[at].number, 4);
         put(call + 4, calls[at].architecture, 4);
@@ -318,7 +320,19 @@ static void asked(void) {
         CHECK(outcome.code == CALLFILTER_RETURNED && outcome.action == calls[at].action && outcome.steps == calls[at].steps_of_search);
         callfilter_decision decision = callfilter_decide(WORKED_SET, sizeof WORKED_SET, call, sizeof call);
         CHECK(decision.code == CALLFILTER_RETURNED && decision.action == calls[at].action && decision.entry == NOWHERE);
+        memcpy(all + at * sizeof call, call, sizeof call);
     }
+    callfilter_ran ran[COUNT + 1];
+    uint8_t *out = (uint8_t *)ran;
+    memset(ran, 0xa5, sizeof ran);
+    CHECK(callfilter_run_all(filter, size, all, sizeof all - 1, out, 0) == CALLFILTER_NOT_A_CALL);
+    CHECK(callfilter_run_all(filter, size - 8, all, sizeof all, out, 0) == CALLFILTER_NOT_TAKEN);
+    CHECK(callfilter_run_all(filter, size, all, sizeof all, out, COUNT * sizeof ran[0] - 1) == CALLFILTER_BUFFER_TOO_SHORT);
+    CHECK(callfilter_run_all(filter, size, all, 0, out, 0) == CALLFILTER_RETURNED);
+    for (size_t at = 0; at < sizeof ran; at++) CHECK(out[at] == 0xa5);
+    CHECK(callfilter_run_all(filter, size, all, sizeof all, out, sizeof ran) == CALLFILTER_RETURNED);
+    for (size_t at = 0; at < COUNT; at++) CHECK(ran[at].action == calls[at].action && ran[at].steps == calls[at].steps);
+    CHECK(ran[COUNT].action == 0xa5a5a5a5 && ran[COUNT].steps == 0xa5a5a5a5);
     CHECK(callfilter_run(filter, size - 8, call, sizeof call).code == CALLFILTER_NOT_TAKEN);
     CHECK(callfilter_run(filter, size, call, sizeof call - 1).code == CALLFILTER_NOT_A_CALL);
     CHECK(callfilter_decide(WORKED_SET, sizeof WORKED_SET - 1, call, sizeof call).code == CALLFILTER_NOT_OF_THE_FORMAT);

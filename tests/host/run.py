@@ -69,8 +69,8 @@ def built(tally, name, *words, **more):
 
 def header(tally):
     text = HEADER.read_text()
-    declared = re.findall(r"^[a-z_]+ (callfilter_\w+)\(", text, re.MULTILINE)
-    promised = re.findall(r"^/\* [^\n]*\n \* [^\n]* \*/\n[a-z_]+ (callfilter_\w+)\(", text, re.MULTILINE)
+    declared = re.findall(r"^\w+ (callfilter_\w+)\(", text, re.MULTILINE)
+    promised = re.findall(r"^/\* [^\n]*\n \* [^\n]* \*/\n\w+ (callfilter_\w+)\(", text, re.MULTILINE)
     exported = re.findall(r" T (\w+)$", run("nm", "--extern-only", "--defined-only", archive.ARCHIVE)[1], re.MULTILINE)
     tally.check("the header declares what the archive exports, and nothing else", sorted(declared) == sorted(exported) and exported,
                 f"declared {sorted(declared)}, exported {sorted(exported)}")

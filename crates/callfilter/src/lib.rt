@@ -10,7 +10,7 @@ ghost use Rattle.definitions.specs.Answer.{filterFaults, leastOf, tooMany, turn
 ghost use Rattle.definitions.specs.Format.{read};
 ghost use Rattle.definitions.specs.Compiled.{Compiled, Searched};
 ghost use Rattle.definitions.specs.Kernel.{acceptsBytes};
-ghost use Rattle.definitions.specs.Outcome.{outcomeOf, decidedOf};
+ghost use Rattle.definitions.specs.Outcome.{outcomeOf, decidedOf, RanAll};
 ghost use Rattle.definitions.specs.Parts.{withEntry, withRule, conditionPart};
 ghost use Rattle.definitions.specs.Writers.{Started, Added};
 ghost use Rattle.definitions.specs.Readers as readers;
@@ -137,6 +137,14 @@ pub extern "C" fn callfilter_run(filter: &[u8], call: &[u8]) -> Outcome
     ensures { λ r. ⌜ r ≡ outcomeOf (now (filter .entry)) (now (call .entry)) ⌝ }
 {
     machine::run(filter, call)
+}
+
+// What a filter does with each of many calls.
+#[no_mangle]
+pub extern "C" fn callfilter_run_all(filter: &[u8], calls: &[u8], out: &mut [u8]) -> u32
+    ensures { λ r. ⌜ RanAll (now (filter .entry)) (now (calls .entry)) (now (out .entry)) (now (out .exit)) r ⌝ }
+{
+    machine::run_all(filter, calls, out)
 }
 
 // What a rule set means for a call.

@@ -1,16 +1,20 @@
 // The classic BPF machine as code that is proved to do what the definitions say. What a definition answers for a filter can so be put
 // beside what a kernel answers for the same bytes.
 ghost use mathlib.Core.Path.{_≡_};
+ghost use mathlib.Core.Bool.{true};
 ghost use mathlib.Core.Option.{some};
 ghost use Prim.Native.Nat.{_+_, _-_, _*_, _/_, _%_, _^_, _≤_};
 ghost use lib.ListN.{length, getD};
 ghost use Rattle.definitions.specs.Word.{low};
 ghost use Rattle.definitions.specs.Machine.{filterOf, callOf, kindOf, runs, steps};
 ghost use Rattle.definitions.specs.Machine as machine;
-ghost use Rattle.definitions.specs.Outcome.{ended, outcomeOf};
+ghost use Rattle.definitions.specs.Kernel.{acceptsBytes};
+ghost use Rattle.definitions.specs.Outcome.{ended, outcomeOf, ranCode, RanAll};
 ghost use Rattle.definitions.specs.Outcome as outcome;
+ghost use Rattle.bpf.specs.Place.{place};
 ghost use Rattle.machine.specs.Codes.{aluNumbered, testNumbered, sourceNumbered, kindAs};
 ghost use Rattle.machine.specs.Run.{anyCall, stateOf, Stepped};
+ghost use Rattle.machine.specs.Outcomes.{outcomeBytes, Put};
 use definitions::Instruction;
 use definitions::Outcome;
 
@@ -59,13 +63,30 @@ fn refused() -> Outcome
     }
 }
 
-fn kind_letter(code: u16) -> u8
+fn letter_in_table(code: u16) -> u8
     ensures { λ r. ⌜ kindAs r (code / 16) (code / 8 % 2) ≡ kindOf code ⌝ }
 {
     if code < 176 {
         return KINDS[code as usize];
     }
     b'.'
+}
+
+// The table is copied wherever it is looked into, so the codes of compiled filters are told without it.
+fn kind_letter(code: u16) -> u8
+    ensures { λ r. ⌜ kindAs r (code / 16) (code / 8 % 2) ≡ kindOf code ⌝ }
+{
+    match code {
+        0x15 => b'?',
+        0x05 => b'j',
+        0x20 => b'c',
+        0x06 => b'k',
+        0x35 => b'?',
+        0x25 => b'?',
+        0x45 => b'?',
+        0x54 => b'+',
+        _ => letter_in_table(code),
+    }
 }
 
 // ---- how a step ends: with a value in a register or a scratch word, some instructions on, with an action, or stuck
@@ -338,4 +359,59 @@ pub fn run(filter: &[u8], call: &[u8]) -> Outcome
         return refused();
     }
     follow(filter, call)
+}
+
+// ---- one filter, many calls: the kernel's checks are made once
+
+// Whether the filter is run on the calls, and else why not.
+fn ran_code(filter: &[u8], calls: &[u8], room: usize) -> u32
+    ensures { λ r. ⌜ r ≡ ranCode (now (filter .entry)) (now (calls .entry)) room ⌝ }
+{
+    if calls.len() % 64 != 0 {
+        return 9;
+    }
+    if !checks::accepts(filter) {
+        return 1;
+    }
+    if room < 8 * (calls.len() / 64) {
+        return 7;
+    }
+    0
+}
+
+// Writes an outcome's action and steps at a place.
+fn write_outcome(out: &mut [u8], at: usize, o: Outcome)
+    requires { ⌜ at + 8 ≤ length (now out) ⌝ }
+    ensures { λ _. ⌜ now (out .exit) ≡ place (now (out .entry)) at (outcomeBytes o) ⌝ }
+{
+    bpf::write_u32(out, at, o.action as u64);
+    bpf::write_u32(out, at + 4, o.steps as u64);
+}
+
+// The outcome of the call with that number is put at its place.
+fn run_one(filter: &[u8], calls: &[u8], i: usize, out: &mut [u8])
+    requires { ⌜ (acceptsBytes (now filter) ≡ true) × (64 * i + 64 ≤ length (now calls)) × (8 * i + 8 ≤ length (now out)) ⌝ }
+    ensures { λ _. ⌜ Put (now (filter .entry)) (now (calls .entry)) i (now (out .entry)) (now (out .exit)) ⌝ }
+{
+    let start = 64 * i;
+    let end = start + 64;
+    let o = follow(filter, &calls[start..end]);
+    write_outcome(out, 8 * i, o);
+}
+
+// What a filter does with each of the calls, written one outcome behind the other.
+pub fn run_all(filter: &[u8], calls: &[u8], out: &mut [u8]) -> u32
+    ensures { λ r. ⌜ RanAll (now (filter .entry)) (now (calls .entry)) (now (out .entry)) (now (out .exit)) r ⌝ }
+{
+    let code = ran_code(filter, calls, out.len());
+    if code != 0 {
+        return code;
+    }
+    let n = calls.len() / 64;
+    let mut i: usize = 0;
+    while i < n {
+        run_one(filter, calls, i, out);
+        i = i + 1;
+    }
+    0
 }

@@ -116,6 +116,7 @@ extern "C" {
     fn callfilter_next_condition(set: *const u8, set_len: usize, cursor: Cursor) -> Compared;
     fn callfilter_accepts(filter: *const u8, filter_len: usize) -> bool;
     fn callfilter_run(filter: *const u8, filter_len: usize, call: *const u8, call_len: usize) -> Ended;
+    fn callfilter_run_all(filter: *const u8, filter_len: usize, calls: *const u8, calls_len: usize, out: *mut u8, out_len: usize) -> u32;
     fn callfilter_decide(set: *const u8, set_len: usize, call: *const u8, call_len: usize) -> Decision;
 }
 
@@ -180,6 +181,12 @@ pub(crate) fn accepts(filter: &[u8]) -> bool {
 pub(crate) fn run(filter: &[sock_filter], call: &[u8; 64]) -> Ended {
     // SAFETY: both slices are good for their lengths, `filter` in bytes
     unsafe { callfilter_run(filter.as_ptr().cast(), std::mem::size_of_val(filter), call.as_ptr(), call.len()) }
+}
+
+pub(crate) fn run_all(filter: &[sock_filter], calls: &[u8], out: &mut [u8]) -> u32 {
+    let (filter, filter_len) = (filter.as_ptr().cast(), std::mem::size_of_val(filter));
+    // SAFETY: all three slices are good for their lengths, `filter` in bytes, and `out` is borrowed alone
+    unsafe { callfilter_run_all(filter, filter_len, calls.as_ptr(), calls.len(), out.as_mut_ptr(), out.len()) }
 }
 
 pub(crate) fn decide(set: &[u8], call: &[u8; 64]) -> Decision {

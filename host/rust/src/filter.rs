@@ -144,6 +144,29 @@ impl Filter {
         assert!(ended.code == 0, "a filter that the kernel takes always returns");
         Outcome { word: ended.action, steps: ended.steps }
     }
+
+    /// The same for each of many calls, in their order. The kernel's checks are made once for all of them, and not once for each, so that a
+    /// call costs no more than the instructions that it runs.
+    ///
+    /// ```
+    /// use callfilter::{Action, Architecture, Call, RuleSet};
+    ///
+    /// let mut set = RuleSet::new(Architecture::X86_64, Action::Log, Action::Allow);
+    /// let filter = set.call(7).compile()?;
+    /// let calls: Vec<Call> = (0..1000).map(|number| Call::new(Architecture::X86_64, number, [0; 6])).collect();
+    /// let outcomes = filter.run_all(&calls);
+    /// assert_eq!((outcomes[7].action(), outcomes[8].action()), (Some(Action::Allow), Some(Action::Log)));
+    /// assert!(outcomes.iter().zip(&calls).all(|(outcome, call)| *outcome == filter.run(call)));
+    /// # Ok::<(), callfilter::Error>(())
+    /// ```
+    pub fn run_all(&self, calls: &[Call]) -> Vec<Outcome> {
+        let asked: Vec<u8> = calls.iter().flat_map(Call::to_bytes).collect();
+        let mut out = vec![0; 8 * calls.len()];
+        let code = boundary::run_all(self, &asked, &mut out);
+        assert!(code == 0, "a filter that the kernel takes always returns");
+        let word = |bytes: &[u8]| u32::from_le_bytes(bytes.try_into().expect("four bytes"));
+        out.chunks_exact(8).map(|ran| Outcome { word: word(&ran[..4]), steps: word(&ran[4..]) }).collect()
+    }
 }
 
 impl Deref for Filter {

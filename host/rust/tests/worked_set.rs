@@ -52,7 +52,7 @@ fn its_filter_returns_what_it_means_for_ten_calls() {
     let set = worked_set().unwrap();
     let filter = set.compile().unwrap();
     let x86_64 = Architecture::X86_64;
-    for (call, action, steps) in [
+    let calls = [
         (Call::new(x86_64, 0, [0; 6]), Action::Allow, 6),
         (Call::new(x86_64, 1, [1, 0, 0, 0, 0, 0]), Action::Allow, 10),
         (Call::new(x86_64, 1, [(1 << 32) + 1, 0, 0, 0, 0, 0]), Action::Allow, 10),
@@ -63,9 +63,14 @@ fn its_filter_returns_what_it_means_for_ten_calls() {
         (Call::new(x86_64, 257, [0, (1 << 32) - 1, 2, 0, 0, 0]), Action::Errno(1), 20),
         (Call::new(x86_64, 2, [0; 6]), Action::Errno(1), 11),
         (Call::new(Architecture::Aarch64, 0, [0; 6]), Action::KillProcess, 3),
-    ] {
+    ];
+    assert_eq!(filter.run_all(&[]), []);
+    let at_once = filter.run_all(&calls.map(|(call, _, _)| call));
+    assert_eq!(at_once.len(), calls.len());
+    for ((call, action, steps), among_all) in calls.into_iter().zip(at_once) {
         let outcome = filter.run(&call);
         assert_eq!((outcome.word, outcome.action(), outcome.steps), (action.word(), Some(action), steps), "{call:?}");
+        assert_eq!(among_all, outcome, "{call:?}");
         assert_eq!(set.decide(&call), Ok(action), "{call:?}");
     }
 }

@@ -16,7 +16,7 @@ use Rattle.definitions.specs.RuleSet.{x86-64, architectureWord, Rule, En
 use Rattle.definitions.specs.Format.{architectureNumber, widthNumber, operatorNumber, encodeCondition, encodeRule, encodeEntry, encode, architectureOf, widthOf, operatorOf, maskTaken, times, conditionAt, ruleAt, entryAt, read, unflagged, nativeOf, headNumber}
 use Rattle.definitions.specs.Answer.{all, fault, nowhere, placeless, noFault, unless, faultsOf, conditionFaults, countFaults, ruleFaults, entriesFaults, setFaults, lesser, leastOf}
 use Rattle.definitions.proofs.Examples.RuleSet.{compared, allow, errno}
-use Rattle.definitions.specs.Outcome.{outcomeOf, decidedOf}
+use Rattle.definitions.specs.Outcome.{outcomeOf, decidedOf, callIn, outcomeIn, ranCode}
 
 -- number 7, architecture 0xc000003e, pointer 2 ^ 32 + 1, arguments 2, 3, 4, 5, 6 and 2 ^ 56
 abbrev call : List ℕ
@@ -38,6 +38,22 @@ answers : (outcomeOf filter call ≡ record { code = 0; action = 2; steps = 3 })
     × (outcomeOf filter (0 ∷ call) ≡ record { code = 9; action = 0; steps = 0 })
 unfolding outcomeOf acceptsBytes accepts eachTaken takenAs operandTaken constantTaken endsInReturn isReturn scratchNext scratchTaken effectOf effectAs kindOf kindIn codes run visits step stepAs fetch words intoA compute testHolds filterOf instructionsAt instructionAt numberAt numberOf filterBytes instructionBytes bytesOf
 answers = (refl, refl, refl, refl)
+
+-- many calls: what is refused, and which of two refusals comes first
+codes-of-many : (ranCode filter (call ++ call) 16 ≡ 0)
+    × (ranCode filter [] 0 ≡ 0)
+    × (ranCode (6 ∷ filter) (0 ∷ call) 0 ≡ 9)
+    × (ranCode filter (take 32 call) 16 ≡ 9)
+    × (ranCode (6 ∷ filter) call 0 ≡ 1)
+    × (ranCode filter (call ++ call) 15 ≡ 7)
+unfolding ranCode acceptsBytes accepts eachTaken takenAs operandTaken constantTaken endsInReturn isReturn scratchNext scratchTaken effectOf effectAs kindOf kindIn codes filterOf instructionsAt instructionAt numberAt numberOf filterBytes instructionBytes bytesOf
+codes-of-many = (refl, refl, refl, refl, refl, refl)
+
+-- the second call, and its outcome
+second : (callIn (replicate 64 0 ++ call) 1 ≡ call)
+    × (outcomeIn (bytesOf 4 1 ++ bytesOf 4 3 ++ bytesOf 4 2 ++ bytesOf 4 70000) 1 ≡ record { code = 0; action = 2; steps = 70000 })
+unfolding numberAt numberOf bytesOf
+second = (refl, refl)
 
 -- ---- rule sets
 
