@@ -14,6 +14,27 @@
 extern "C" {
 #endif
 
+/* ---- the version */
+
+/* 0.1.0: major, minor and patch, a byte each */
+#define CALLFILTER_VERSION UINT32_C(0x000100)
+
+/* The version of the archive, as CALLFILTER_VERSION is that of this header. The name has the number of the binary interface, which is
+ * raised with every change of a struct or a signature: a program that includes this header links with no archive of another number. */
+uint32_t callfilter_abi_1(void);
+#define CALLFILTER_ABI callfilter_abi_1
+
+/* what asks for it, used or not */
+#if defined(__has_attribute)
+#if __has_attribute(retain)
+__attribute__((retain))
+#endif
+#endif
+#if defined(__GNUC__)
+__attribute__((used))
+#endif
+static uint32_t (*const callfilter_abi_asked)(void) = CALLFILTER_ABI;
+
 /* ---- the numbers that stand for names */
 
 enum {

@@ -416,6 +416,7 @@ static void native(void) {
 }
 
 int main(void) {
+    CHECK(CALLFILTER_ABI() == CALLFILTER_VERSION);
     written();
     read_back();
     compiled(callfilter_compile, 36);

@@ -90,6 +90,62 @@ def header(tally):
             tally.counted(f"the boundary from {name}", r"(?m)^(\d+) passed, (\d+) failed$", program)
 
 
+# ---- the version
+
+
+def version(tally):
+    number = int(re.search(r"define CALLFILTER_VERSION UINT32_C\((0x\w+)\)", HEADER.read_text())[1], 16)
+    told = f"{number >> 16}.{number >> 8 & 255}.{number & 255}"
+    manifest, changes = (CRATE / "Cargo.toml").read_text(), (ROOT / "CHANGELOG.md").read_text()
+    named = [re.search(r'(?m)^version = "(.*)"$', manifest)[1], re.search(r"(?m)^## (\S+)$", changes)[1]]
+    tally.check("header, crate and changes have one version", named == [told, told], f"{told} in the header, else {named}")
+    licences = re.search(r'(?m)^license = "(.*)"$', manifest)[1].split(" OR ")
+    missing = [name for name in licences if not (ROOT / f"LICENSE-{name}").is_file()]
+    tally.check("each licence that the crate names is there", len(licences) == 2 and not missing, missing)
+
+
+def another_interface():
+    """The archive as one of another binary interface would be, and the name that it does not have: that by which its version is asked."""
+    [name] = set(re.findall(r"\bcallfilter_abi_\d+", HEADER.read_text()))
+    another = TARGET / "another" / archive.ARCHIVE.name
+    another.parent.mkdir(exist_ok=True)
+    run("objcopy", "--redefine-sym", f"{name}={name}0", archive.ARCHIVE, another)
+    return another, name
+
+
+def kept_apart(tally, host, build):
+    """That a host is built around the archive, and around one of another binary interface is not, for want of that name."""
+    another, name = another_interface()
+    (status, said), (refused, why) = build(archive.ARCHIVE), build(another)
+    tally.check(f"{host} links with no archive of another interface", status == 0 and refused != 0 and name in why, said + why)
+
+
+def header_kept_apart(tally):
+    """A host that asks for no version, and leaves out of the program what it does not use."""
+    host = '#include "callfilter.h"\nint main(void) { return callfilter_accepts((const uint8_t *)"", 0); }\n'
+    for compiler, language in (("gcc", "c"), ("g++", "c++"), ("clang", "c")):
+        if shutil.which(compiler) is None:
+            tally.skip(f"the header by {compiler} beside another archive", f"{compiler} is not there")
+            continue
+        words = (compiler, *STRICT, "-ffunction-sections", "-fdata-sections", "-Wl,--gc-sections", "-x", language, "-", "-x", "none")
+        kept_apart(tally, f"the header by {compiler}", lambda library: run(*words, library, "-o", TARGET / "apart", input=host))
+
+
+def crate_kept_apart(tally, rustc):
+    """The same of the crate, by the first function that such a host would call."""
+    for called in ("Filter::accepted(&[])", "Filter::compile(&[]).is_ok()", "Filter::compile_search(&[]).is_ok()"):
+        host = TARGET / "apart.rs"
+        host.write_text(f"use callfilter::Filter;\nfn main() {{ println!(\"{{}}\", {called}) }}\n")
+
+        def build(library):
+            crate = TARGET / "libapart.rlib"
+            link = ("-L", f"native={library.parent}", "-l", "static=callfilter")
+            made = run(*rustc, "--crate-type", "rlib", "--crate-name", "callfilter", CRATE / "src" / "lib.rs", *link, "-o", crate)
+            return made if made[0] else run(*rustc, host, "--extern", f"callfilter={crate}", "-o", TARGET / "apart")
+
+        kept_apart(tally, f"the crate, by {called.split('(')[0]},", build)
+
+
 # ---- the crate
 
 
@@ -108,6 +164,7 @@ def crate(tally):
     source = CRATE / "src" / "lib.rs"
     if not built(tally, "the crate without a warning", *rustc, "--crate-type", "rlib", "--crate-name", "callfilter", source, *link, "-o", LIBRARY):
         return
+    crate_kept_apart(tally, rustc)
     programs = [(source, (*link, "--crate-name", "callfilter"))]
     programs += [(path, ("--extern", f"callfilter={LIBRARY}")) for path in sorted((CRATE / "tests").glob("*.rs"))]
     for path, words in programs:
@@ -160,6 +217,8 @@ def main():
         print("0 passed, 1 failed")
         return 1
     header(tally)
+    version(tally)
+    header_kept_apart(tally)
     if shutil.which("rustc") is None:
         tally.skip("the crate and the demo", "rustc is not there")
     else:

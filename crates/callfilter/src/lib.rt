@@ -4,7 +4,7 @@ ghost use mathlib.Core.Path.{_≡_};
 ghost use mathlib.Core.Bool.{true, false, not};
 ghost use mathlib.Core.Option.{some};
 ghost use lib.Dec.{eqb, ltb};
-ghost use Prim.Native.Nat.{_≤_};
+ghost use Prim.Native.Nat.{_+_, _*_, _^_, _≤_};
 ghost use Rattle.definitions.specs.Answer as answers;
 ghost use Rattle.definitions.specs.Answer.{filterFaults, leastOf, tooMany, turnsLong};
 ghost use Rattle.definitions.specs.Format.{read};
@@ -33,6 +33,16 @@ const TOO_MANY: usize = 4097;
 
 // What stands for a number that does not apply.
 const NOWHERE: u32 = 0xffffffff;
+
+// The version, as major, minor and patch, a byte each. The name has the number of the binary interface, which is raised whenever a struct,
+// a signature or what a number means changes: the header and the crate ask for it by name, so that neither links with an archive that it
+// was not made for.
+#[no_mangle]
+pub extern "C" fn callfilter_abi_1() -> u32
+    ensures { λ r. ⌜ r ≡ 0 * 2 ^ 16 + 1 * 2 ^ 8 + 0 ⌝ }
+{
+    0x000100
+}
 
 // How many instructions are told with a code.
 fn count_with(code: u32, count: u32) -> u32

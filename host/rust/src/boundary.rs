@@ -95,6 +95,7 @@ pub(crate) struct Compared {
 }
 
 extern "C" {
+    fn callfilter_abi_1() -> u32;
     fn callfilter_compile(set: *const u8, set_len: usize, out: *mut u8, out_len: usize) -> Answer;
     fn callfilter_compile_search(set: *const u8, set_len: usize, out: *mut u8, out_len: usize) -> Answer;
     fn callfilter_start(out: *mut u8, out_len: usize, architecture: u32, mismatch: u32, on_match: u32) -> Writer;
@@ -123,17 +124,27 @@ extern "C" {
 // The casts below go from instructions to bytes: an instruction is eight bytes without padding, and any eight bytes are an instruction.
 const _: () = assert!(std::mem::size_of::<sock_filter>() == 8);
 
+/// The archive's version. The name that it is asked by has the number of the binary interface, and every way into the archive asks: so no
+/// program with this crate in it links with an archive whose structs or signatures are others.
+pub(crate) fn version() -> u32 {
+    // SAFETY: nothing is handed over
+    unsafe { callfilter_abi_1() }
+}
+
 pub(crate) fn compile(set: &[u8], out: &mut [sock_filter]) -> Answer {
+    version();
     // SAFETY: both slices are good for their lengths, `out` in bytes, and borrowed apart
     unsafe { callfilter_compile(set.as_ptr(), set.len(), out.as_mut_ptr().cast(), std::mem::size_of_val(out)) }
 }
 
 pub(crate) fn compile_search(set: &[u8], out: &mut [sock_filter]) -> Answer {
+    version();
     // SAFETY: both slices are good for their lengths, `out` in bytes, and borrowed apart
     unsafe { callfilter_compile_search(set.as_ptr(), set.len(), out.as_mut_ptr().cast(), std::mem::size_of_val(out)) }
 }
 
 pub(crate) fn start(out: &mut [u8], architecture: u32, mismatch: u32, on_match: u32) -> Writer {
+    version();
     // SAFETY: the slice is good for its length
     unsafe { callfilter_start(out.as_mut_ptr(), out.len(), architecture, mismatch, on_match) }
 }
@@ -154,6 +165,7 @@ pub(crate) fn add_condition(out: &mut [u8], writer: Writer, index: u8, width: u8
 }
 
 pub(crate) fn read_head(set: &[u8]) -> Head {
+    version();
     // SAFETY: the slice is good for its length
     unsafe { callfilter_read_head(set.as_ptr(), set.len()) }
 }
@@ -174,6 +186,7 @@ pub(crate) fn next_condition(set: &[u8], cursor: Cursor) -> Compared {
 }
 
 pub(crate) fn accepts(filter: &[u8]) -> bool {
+    version();
     // SAFETY: the slice is good for its length
     unsafe { callfilter_accepts(filter.as_ptr(), filter.len()) }
 }

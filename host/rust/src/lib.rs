@@ -53,6 +53,17 @@ mod rule_set;
 mod words;
 mod writing;
 
+/// The version of the archive that is linked: major, minor and patch. A program with this crate in it links only with an archive of the
+/// same binary interface; within that, versions may differ.
+///
+/// ```
+/// assert_eq!(callfilter::version(), [0, 1, 0]);
+/// ```
+pub fn version() -> [u8; 3] {
+    let [patch, minor, major, _] = boundary::version().to_le_bytes();
+    [major, minor, patch]
+}
+
 pub use action::Action;
 pub use architecture::Architecture;
 pub use call::Call;
