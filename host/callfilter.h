@@ -2,7 +2,8 @@
  *
  * The promises are proved of every input, against the definitions in crates/definitions/specs; docs/PROMISES.md has them by name. No
  * function looks at what it was called with before: any bytes, states and cursors get their answer. Only what C cannot say is asked:
- * a pointer is not null and has as many bytes behind it as its length says, and bytes that are written overlap no others. */
+ * a pointer has as many bytes behind it as its length says, and bytes that are written overlap no others. A pointer to no bytes may be
+ * null, as an empty vector's is. */
 #ifndef CALLFILTER_H
 #define CALLFILTER_H
 
@@ -12,6 +13,21 @@
 
 #ifdef __cplusplus
 extern "C" {
+#endif
+
+/* ---- what compilers are told of functions: an answer is looked at, and which bytes are read and written */
+
+#if defined(__GNUC__)
+#define CALLFILTER_ANSWERS __attribute__((warn_unused_result))
+#else
+#define CALLFILTER_ANSWERS
+#endif
+#define CALLFILTER_BYTES(mode, pointer, length)
+#if defined(__has_attribute)
+#if __has_attribute(access)
+#undef CALLFILTER_BYTES
+#define CALLFILTER_BYTES(mode, pointer, length) __attribute__((access(mode, pointer, length)))
+#endif
 #endif
 
 /* ---- the version */
@@ -61,13 +77,26 @@ enum {
     CALLFILTER_NE = 6
 };
 
-/* actions: the words that a filter returns; errno and trace have a number in their lower half */
+/* Errno and trace carry a number of 16 bits. Where the compiler knows a number that has more it does not compile; else the word is
+ * 0xffffffff, which is no action: callfilter_start refuses it. Errno 0 makes a call return 0 without being made, and of a number above
+ * 4,095 the kernel makes 4,095. */
+#if defined(__GNUC__) && !defined(__cplusplus)
+#define CALLFILTER_KNOWN(number) __builtin_choose_expr(__builtin_constant_p(number), (number), 0)
+#elif defined(__GNUC__)
+#define CALLFILTER_KNOWN(number) (__builtin_constant_p(number) ? (number) : 0)
+#else
+#define CALLFILTER_KNOWN(number) 0
+#endif
+#define CALLFILTER_CARRYING(word, number) \
+    ((uint64_t)(number) >> 16 < sizeof(char[CALLFILTER_KNOWN(number) >> 16 ? -1 : 1]) ? (word) | (uint32_t)(number) : UINT32_C(0xffffffff))
+
+/* actions: the words that a filter returns */
 #define CALLFILTER_KILL_PROCESS UINT32_C(0x80000000)
 #define CALLFILTER_KILL_THREAD UINT32_C(0x00000000)
 #define CALLFILTER_TRAP UINT32_C(0x00030000)
-#define CALLFILTER_ERRNO(number) (UINT32_C(0x00050000) | (uint16_t)(number))
+#define CALLFILTER_ERRNO(number) CALLFILTER_CARRYING(UINT32_C(0x00050000), number)
 #define CALLFILTER_USER_NOTIF UINT32_C(0x7fc00000)
-#define CALLFILTER_TRACE(number) (UINT32_C(0x7ff00000) | (uint16_t)(number))
+#define CALLFILTER_TRACE(number) CALLFILTER_CARRYING(UINT32_C(0x7ff00000), number)
 #define CALLFILTER_LOG UINT32_C(0x7ffc0000)
 #define CALLFILTER_ALLOW UINT32_C(0x7fff0000)
 
@@ -105,13 +134,17 @@ typedef struct {
     uint32_t code, count, entry, rule, condition;
 } callfilter_answer;
 
+/* With no room at all a set that compiles gets 7, and with it the count: so the size is asked for, 8 bytes an instruction. */
+
 /* Answers the smallest number that applies, and where; refusing, it writes nothing. With 0 out begins with seccompiler's filter, byte for
  * byte, and the rest stays: for any call it returns what the set means, it runs no instruction twice, and the kernel's checks pass on it. */
-callfilter_answer callfilter_compile(const uint8_t *set, size_t set_len, uint8_t *out, size_t out_len);
+callfilter_answer callfilter_compile(const uint8_t *set, size_t set_len, uint8_t *out, size_t out_len)
+    CALLFILTER_ANSWERS CALLFILTER_BYTES(read_only, 1, 2) CALLFILTER_BYTES(write_only, 3, 4);
 
 /* The same, but for the bytes: a binary search, never longer than that filter, so that every set is compiled that callfilter_compile takes.
  * With at most 2^k spans (a number with rules, or a row without) a run takes k + max(6, k) + 1 instructions at most, beside guard and rules. */
-callfilter_answer callfilter_compile_search(const uint8_t *set, size_t set_len, uint8_t *out, size_t out_len);
+callfilter_answer callfilter_compile_search(const uint8_t *set, size_t set_len, uint8_t *out, size_t out_len)
+    CALLFILTER_ANSWERS CALLFILTER_BYTES(read_only, 1, 2) CALLFILTER_BYTES(write_only, 3, 4);
 
 /* ---- writing a rule set part by part */
 
@@ -132,20 +165,24 @@ typedef struct {
 
 /* Starts a set that lists nothing; after it, whatever parts are taken or refused, the bytes up to end are the byte form of the parts taken,
  * read back as these, and are never answer 1. Refused (1 or 3), nothing is written, and no writer takes the state. */
-callfilter_writer callfilter_start(uint8_t *out, size_t out_len, uint32_t architecture, uint32_t mismatch, uint32_t on_match);
+callfilter_writer callfilter_start(uint8_t *out, size_t out_len, uint32_t architecture, uint32_t mismatch, uint32_t on_match)
+    CALLFILTER_ANSWERS CALLFILTER_BYTES(write_only, 1, 2);
 
 /* Lists a number, which matches whatever its arguments are until a rule is begun for it: the set has this entry more, at its end.
  * Refused (3, 4 or 5), nothing is written, and the state is as it came but for its code. */
-callfilter_writer callfilter_list(uint8_t *out, size_t out_len, callfilter_writer writer, uint32_t number);
+callfilter_writer callfilter_list(uint8_t *out, size_t out_len, callfilter_writer writer, uint32_t number)
+    CALLFILTER_ANSWERS CALLFILTER_BYTES(read_write, 1, 2);
 
 /* Begins a rule for the number listed last: the set has this rule more, without conditions yet.
  * Refused (2 to 5), nothing is written, and the state is as it came but for its code. */
-callfilter_writer callfilter_begin_rule(uint8_t *out, size_t out_len, callfilter_writer writer);
+callfilter_writer callfilter_begin_rule(uint8_t *out, size_t out_len, callfilter_writer writer)
+    CALLFILTER_ANSWERS CALLFILTER_BYTES(read_write, 1, 2);
 
 /* Adds a condition to the rule begun last; every index is taken here, and those above 5 are refused by compiling.
  * Refused (1 to 5), nothing is written, and the state is as it came but for its code. */
 callfilter_writer callfilter_add_condition(uint8_t *out, size_t out_len, callfilter_writer writer, uint8_t index, uint8_t width,
-                                           uint8_t comparison, uint64_t value, uint64_t mask);
+                                           uint8_t comparison, uint64_t value, uint64_t mask)
+    CALLFILTER_ANSWERS CALLFILTER_BYTES(read_write, 1, 2);
 
 /* ---- reading a rule set part by part */
 
@@ -180,19 +217,23 @@ typedef struct {
 
 /* Reads the head of a set, and gives the cursor before its first entry; of a set in the format the readers give back every part in order,
  * and then stand at its end. Where there is no head (1), all else is 0. */
-callfilter_head callfilter_read_head(const uint8_t *set, size_t set_len);
+callfilter_head callfilter_read_head(const uint8_t *set, size_t set_len)
+    CALLFILTER_ANSWERS CALLFILTER_BYTES(read_only, 1, 2);
 
 /* Reads the number listed next, once every rule of the last one is read.
  * Where that cannot be (1 or 2), the cursor is as it came but for its code. */
-callfilter_listed callfilter_next_entry(const uint8_t *set, size_t set_len, callfilter_cursor cursor);
+callfilter_listed callfilter_next_entry(const uint8_t *set, size_t set_len, callfilter_cursor cursor)
+    CALLFILTER_ANSWERS CALLFILTER_BYTES(read_only, 1, 2);
 
 /* Goes on to the next rule, once every condition of the last one is read.
  * Where that cannot be (1 or 2), the cursor is as it came but for its code. */
-callfilter_cursor callfilter_next_rule(const uint8_t *set, size_t set_len, callfilter_cursor cursor);
+callfilter_cursor callfilter_next_rule(const uint8_t *set, size_t set_len, callfilter_cursor cursor)
+    CALLFILTER_ANSWERS CALLFILTER_BYTES(read_only, 1, 2);
 
 /* Reads the next condition of the open rule.
  * Where that cannot be (1 or 2), the cursor is as it came but for its code. */
-callfilter_compared callfilter_next_condition(const uint8_t *set, size_t set_len, callfilter_cursor cursor);
+callfilter_compared callfilter_next_condition(const uint8_t *set, size_t set_len, callfilter_cursor cursor)
+    CALLFILTER_ANSWERS CALLFILTER_BYTES(read_only, 1, 2);
 
 /* ---- asking, without a kernel */
 
@@ -220,19 +261,23 @@ typedef struct {
 
 /* Whether the kernel's checks, as the definitions have them, pass on the filter.
  * Any bytes may be offered, made by whomever. */
-bool callfilter_accepts(const uint8_t *filter, size_t filter_len);
+bool callfilter_accepts(const uint8_t *filter, size_t filter_len)
+    CALLFILTER_ANSWERS CALLFILTER_BYTES(read_only, 1, 2);
 
 /* What the filter returns for a call, and after how many instructions, as the definitions' machine runs it.
  * A filter that callfilter_accepts takes always returns (0); any other is not run (1). */
-callfilter_outcome callfilter_run(const uint8_t *filter, size_t filter_len, const uint8_t *call, size_t call_len);
+callfilter_outcome callfilter_run(const uint8_t *filter, size_t filter_len, const uint8_t *call, size_t call_len)
+    CALLFILTER_ANSWERS CALLFILTER_BYTES(read_only, 1, 2) CALLFILTER_BYTES(read_only, 3, 4);
 
 /* What the filter returns for each of many calls, 64 bytes each, one behind the other: the kernel's checks are made once for all of them.
  * With 0 out begins with a callfilter_ran for each call, in their order, and the rest stays. Refusing (9, 1 or 7), it writes nothing. */
-uint32_t callfilter_run_all(const uint8_t *filter, size_t filter_len, const uint8_t *calls, size_t calls_len, uint8_t *out, size_t out_len);
+uint32_t callfilter_run_all(const uint8_t *filter, size_t filter_len, const uint8_t *calls, size_t calls_len, uint8_t *out, size_t out_len)
+    CALLFILTER_ANSWERS CALLFILTER_BYTES(read_only, 1, 2) CALLFILTER_BYTES(read_only, 3, 4) CALLFILTER_BYTES(write_only, 5, 6);
 
 /* What the set means for a call, straight from the bytes of both: where the set compiles, its filter returns this action for the call.
  * A set in which compiling refuses something (1 to 5, 8) gets that number and place; one whose filter is too long has its meaning. */
-callfilter_decision callfilter_decide(const uint8_t *set, size_t set_len, const uint8_t *call, size_t call_len);
+callfilter_decision callfilter_decide(const uint8_t *set, size_t set_len, const uint8_t *call, size_t call_len)
+    CALLFILTER_ANSWERS CALLFILTER_BYTES(read_only, 1, 2) CALLFILTER_BYTES(read_only, 3, 4);
 
 #ifdef __cplusplus
 }

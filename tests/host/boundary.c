@@ -415,6 +415,55 @@ static void native(void) {
     }
 }
 
+/* a pointer to no bytes may be null, wherever there is one */
+static void nothing(void) {
+    const uint8_t *set = WORKED_SET;
+    callfilter_writer writer = {0, 16, 0, 0};
+    callfilter_cursor cursor = {0, 0, 1, 1, 1}, at_an_entry = {0, 0, 1, 0, 0}, at_a_rule = {0, 0, 1, 1, 0};
+    uint8_t call[CALLFILTER_CALL_SIZE] = {0};
+    static const form forms[] = {callfilter_compile, callfilter_compile_search};
+    static const uint32_t counts[] = {36, 27};
+    for (int at = 0; at < 2; at++) {
+        CHECK(answered(forms[at](NULL, 0, NULL, 0), CALLFILTER_NOT_OF_THE_FORMAT, 0, NOWHERE, NOWHERE, NOWHERE));
+        CHECK(answered(forms[at](NULL, 0, filter, sizeof filter), CALLFILTER_NOT_OF_THE_FORMAT, 0, NOWHERE, NOWHERE, NOWHERE));
+        /* how a size is asked for */
+        CHECK(answered(forms[at](set, sizeof WORKED_SET, NULL, 0), CALLFILTER_BUFFER_TOO_SHORT, counts[at], NOWHERE, NOWHERE, NOWHERE));
+    }
+    CHECK(callfilter_start(NULL, 0, CALLFILTER_X86_64, CALLFILTER_TRAP, CALLFILTER_ALLOW).code == CALLFILTER_NO_ROOM);
+    CHECK(callfilter_list(NULL, 0, writer, 0).code == CALLFILTER_NO_ROOM);
+    writer.entry = 8;
+    CHECK(callfilter_begin_rule(NULL, 0, writer).code == CALLFILTER_NO_ROOM);
+    writer.rule = 12;
+    CHECK(callfilter_add_condition(NULL, 0, writer, 0, CALLFILTER_QWORD, CALLFILTER_EQ, 0, 0).code == CALLFILTER_NO_ROOM);
+    CHECK(callfilter_read_head(NULL, 0).next.code == CALLFILTER_NOT_THERE);
+    CHECK(callfilter_next_entry(NULL, 0, at_an_entry).next.code == CALLFILTER_NOT_THERE);
+    CHECK(callfilter_next_rule(NULL, 0, at_a_rule).code == CALLFILTER_NOT_THERE);
+    CHECK(callfilter_next_condition(NULL, 0, cursor).next.code == CALLFILTER_NOT_THERE);
+    CHECK(!callfilter_accepts(NULL, 0));
+    size_t size = 8 * (size_t)callfilter_compile(set, sizeof WORKED_SET, filter, sizeof filter).count;
+    CHECK(callfilter_run(NULL, 0, call, sizeof call).code == CALLFILTER_NOT_TAKEN);
+    CHECK(callfilter_run(filter, size, NULL, 0).code == CALLFILTER_NOT_A_CALL);
+    CHECK(callfilter_run_all(filter, size, NULL, 0, NULL, 0) == CALLFILTER_RETURNED);
+    CHECK(callfilter_run_all(NULL, 0, call, sizeof call, NULL, 0) == CALLFILTER_NOT_TAKEN);
+    CHECK(callfilter_run_all(filter, size, call, sizeof call, NULL, 0) == CALLFILTER_BUFFER_TOO_SHORT);
+    CHECK(callfilter_decide(NULL, 0, call, sizeof call).code == CALLFILTER_NOT_OF_THE_FORMAT);
+    CHECK(callfilter_decide(set, sizeof WORKED_SET, NULL, 0).code == CALLFILTER_NOT_A_CALL);
+}
+
+/* numbers that the compiler does not know: what has more than 16 bits is no action */
+static void carried(void) {
+    static const int64_t numbers[] = {0, 1, 4095, 65535, 65536, -1, INT64_C(0x100000001)};
+    for (size_t at = 0; at < sizeof numbers / sizeof numbers[0]; at++) {
+        int64_t number = numbers[at];
+        bool fits = 0 <= number && number <= 65535;
+        uint32_t lower = fits ? (uint32_t)number : 0;
+        CHECK(CALLFILTER_ERRNO(number) == (fits ? 0x00050000 | lower : 0xffffffff));
+        CHECK(CALLFILTER_TRACE(number) == (fits ? 0x7ff00000 | lower : 0xffffffff));
+        uint32_t code = callfilter_start(buffer, ROOM, CALLFILTER_X86_64, CALLFILTER_ERRNO(number), CALLFILTER_ALLOW).code;
+        CHECK(code == (uint32_t)(fits ? CALLFILTER_WRITTEN : CALLFILTER_PART_NOT_GOOD));
+    }
+}
+
 int main(void) {
     CHECK(CALLFILTER_ABI() == CALLFILTER_VERSION);
     written();
@@ -426,6 +475,8 @@ int main(void) {
     native();
     numbers();
     asked();
+    nothing();
+    carried();
     printf("%d passed, %d failed\n", passed, failed);
     return failed != 0;
 }

@@ -90,6 +90,23 @@ def header(tally):
             tally.counted(f"the boundary from {name}", r"(?m)^(\d+) passed, (\d+) failed$", program)
 
 
+def wrong_uses(tally):
+    """Each line is a use that must not compile where the others do."""
+    good = ("(void)CALLFILTER_ERRNO(65535);", "(void)CALLFILTER_TRACE(0);", "if (callfilter_accepts(bytes, sizeof bytes)) return 1;")
+    wrong = ("(void)CALLFILTER_ERRNO(65536);", "(void)CALLFILTER_TRACE(65536u);", "(void)CALLFILTER_ERRNO(-1);",
+             "callfilter_accepts(bytes, sizeof bytes);", "callfilter_start(bytes, sizeof bytes, 1, CALLFILTER_TRAP, CALLFILTER_ALLOW);")
+    # only gcc knows which lengths are those of which pointers
+    lengths = ("if (callfilter_accepts(bytes, sizeof bytes + 1)) return 1;", "if (callfilter_accepts(NULL, 8)) return 1;")
+    for compiler, language in (("gcc", "c"), ("g++", "c++"), ("clang", "c")):
+        if shutil.which(compiler) is None:
+            tally.skip(f"wrong uses of the header by {compiler}", f"{compiler} is not there")
+            continue
+        for line in (*good, *wrong, *(lengths if compiler != "clang" else ())):
+            host = f'#include "callfilter.h"\nint main(void) {{ uint8_t bytes[64] = {{0}}; {line} return bytes[0]; }}\n'
+            status, said = run(compiler, *STRICT, "-x", language, "-c", "-", "-o", TARGET / "wrong.o", input=host)
+            tally.check(f"{line} by {compiler} {'compiles' if line in good else 'does not compile'}", (status == 0) == (line in good), said)
+
+
 # ---- the version
 
 
@@ -217,6 +234,7 @@ def main():
         print("0 passed, 1 failed")
         return 1
     header(tally)
+    wrong_uses(tally)
     version(tally)
     header_kept_apart(tally)
     if shutil.which("rustc") is None:
