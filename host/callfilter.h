@@ -119,7 +119,7 @@ enum {
     CALLFILTER_INDEX_ABOVE_FIVE = 5,
     CALLFILTER_TOO_MANY_INSTRUCTIONS = 6, /* 4,097 or more: the kernel takes 4,096 */
     CALLFILTER_BUFFER_TOO_SHORT = 7,
-    CALLFILTER_MORE_THAN_32_BITS = 8 /* the value or the mask of a dword condition, which looks at 32 */
+    CALLFILTER_MORE_THAN_32_BITS = 8 /* the value or mask of a dword condition, which looks at 32: cut a negative int, (uint32_t)AT_FDCWD */
 };
 
 /* stands for an entry, a rule or a condition that an answer does not speak of */

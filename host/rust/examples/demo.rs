@@ -52,7 +52,7 @@ fn told((architecture, number, given): Sketch) -> String {
 }
 
 fn short(value: u64) -> String {
-    if value < 1 << 16 {
+    if value < 10 {
         value.to_string()
     } else {
         format!("{value:#x}")

@@ -19,7 +19,8 @@ pub enum Action {
     KillThread,
     /// The thread gets the signal SIGSYS.
     Trap,
-    /// The call is not made, and fails with this error number.
+    /// The call is not made, and fails with this error number. With 0 it does not fail: it returns 0, as if it had been made. Of a number
+    /// above 4,095 the kernel makes 4,095.
     Errno(u16),
     /// A supervisor that listens is asked; without one the call fails.
     UserNotif,

@@ -2,7 +2,7 @@
 
 use std::fmt;
 
-use crate::words::Number;
+use crate::words::Value;
 use crate::Error;
 
 /// How much of an argument and of the value is compared.
@@ -66,7 +66,8 @@ pub struct Condition {
 
 impl Condition {
     /// The argument's index is 0 to 5. A value, or a mask, that is compared as a [`Width::Dword`] has at most 32 bits: what it has above
-    /// them would never be looked at.
+    /// them would never be looked at. A negative `int` is cut to them: `AT_FDCWD as u32` is 0xffffff9c. As a [`Width::Qword`]
+    /// it would have ones above, where calls mostly have zeros, and would not match.
     ///
     /// ```
     /// use callfilter::{Condition, Error, Operator, Width};
@@ -75,6 +76,12 @@ impl Condition {
     /// assert_eq!(error.to_string(), "there is no argument 6; a call has the arguments 0 to 5");
     /// let error = Condition::new(0, Width::Dword, Operator::Eq, 1 << 32).unwrap_err();
     /// assert_eq!(error, Error::MoreThan32Bits { number: 1 << 32, place: None });
+    /// let error = Condition::new(0, Width::Dword, Operator::Eq, -100_i64 as u64).unwrap_err();
+    /// assert_eq!(
+    ///     error.to_string(),
+    ///     "a dword condition looks at 32 bits, and 0xffffffffffffff9c has more: cut it to 0xffffff9c; \
+    ///      the bits above are no part of an int, and calls mostly have zeros there"
+    /// );
     /// ```
     pub fn new(index: u8, width: Width, operator: Operator, value: u64) -> Result<Condition, Error> {
         if index > 5 {
@@ -113,7 +120,7 @@ impl fmt::Display for Condition {
         if self.width == Width::Dword {
             write!(to, " (low 32 bits)")?;
         }
-        let seen = |number| Number(self.width.low_bits(number));
+        let seen = |number| Value(self.width.low_bits(number));
         let value = seen(self.value);
         match self.operator {
             Operator::Eq => write!(to, " = {value}"),

@@ -2,6 +2,7 @@
 
 use std::fmt;
 
+use crate::words::CallNumber;
 use crate::{Action, Architecture};
 
 /// Where in a rule set something is wrong. All is counted from 0, in the order of the set's bytes: a [`RuleSet`](crate::RuleSet) has its
@@ -27,7 +28,7 @@ pub struct Place {
 
 impl fmt::Display for Place {
     fn fmt(&self, to: &mut fmt::Formatter) -> fmt::Result {
-        write!(to, "entry {} (call {})", self.entry, self.call)?;
+        write!(to, "entry {} (call {})", self.entry, CallNumber(self.call))?;
         let inside = [("rule", self.rule), ("condition", self.condition)];
         inside.into_iter().try_for_each(|(part, number)| number.map_or(Ok(()), |number| write!(to, ", {part} {number}")))
     }
@@ -72,6 +73,8 @@ pub enum Error {
         count: u32,
         /// The first entry with which it is too long; of a search one with which it gets too long, since it need not grow with each.
         place: Place,
+        /// How many a search would have, by [`RuleSet::compile_search`](crate::RuleSet::compile_search), where that is short enough.
+        search: Option<u32>,
     },
     /// The set would have more than 1 MiB as bytes.
     SetTooLong,
@@ -120,7 +123,7 @@ impl fmt::Display for Error {
                 "these bytes are no rule set: cut short, too long, or with a number that stands for nothing; a RuleSet writes them right"
             ),
             Error::NotAscending { behind, .. } => {
-                write!(to, "the one before it lists call {behind}; numbers must be strictly ascending")
+                write!(to, "the one before it lists call {}; numbers must be strictly ascending", CallNumber(*behind))
             }
             Error::EqualActions(action) => {
                 write!(to, "the action is {action} whether a call matches or not: a filter needs two different actions")
@@ -129,17 +132,26 @@ impl fmt::Display for Error {
                 write!(to, "it has no conditions; give it at least one, or the call no rules if it is to match always")
             }
             Error::AlwaysAndByRules(call) => {
+                let call = CallNumber(*call);
                 write!(to, "call {call} is listed without rules, to match always, and once more with rules: keep one of the two")
             }
             Error::IndexAboveFive { index, .. } => write!(to, "there is no argument {index}; a call has the arguments 0 to 5"),
             Error::MoreThan32Bits { number, .. } => {
-                write!(to, "a dword condition looks at 32 bits, and {number:#x} has more; compare a qword, or cut the number")
+                write!(to, "a dword condition looks at 32 bits, and {number:#x} has more")?;
+                if number >> 32 == 0xffff_ffff {
+                    let cut = number & 0xffff_ffff;
+                    write!(to, ": cut it to {cut:#x}; the bits above are no part of an int, and calls mostly have zeros there")
+                } else {
+                    write!(to, "; compare a qword, or cut the number")
+                }
             }
-            Error::TooManyInstructions { count, .. } => write!(
-                to,
-                "with it the filter gets too long; in all it would have {count} instructions, and at most 4096 are compiled: list fewer \
-                 calls or conditions"
-            ),
+            Error::TooManyInstructions { count, search, .. } => {
+                write!(to, "with it the filter gets too long; in all it would have {count} instructions, and at most 4096 are compiled: ")?;
+                match search {
+                    Some(short) => write!(to, "compile_search makes a filter of {short} that does the same"),
+                    None => write!(to, "list fewer calls or conditions"),
+                }
+            }
             Error::SetTooLong => write!(to, "the rule set would have more than 1 MiB as bytes: list fewer calls or conditions"),
             Error::NotTaken => write!(
                 to,

@@ -5,7 +5,7 @@ use std::ops::Deref;
 use crate::{boundary, reading, sock_filter, Action, Call, Error};
 
 /// As many instructions as a compiled filter has at most.
-const LONGEST: usize = 4096;
+pub(crate) const LONGEST: usize = 4096;
 
 /// A filter that the kernel takes, as a slice of its instructions.
 ///

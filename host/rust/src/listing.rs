@@ -4,7 +4,7 @@
 
 use std::fmt;
 
-use crate::words::Number;
+use crate::words::{CallNumber, Value};
 use crate::{sock_filter, Action, Architecture, Filter};
 
 const NUMBER: u32 = 0;
@@ -19,7 +19,7 @@ impl fmt::Display for Filter {
         let (known, lanes) = (known_at_each(self), lanes(self));
         for (at, instruction) in self.iter().enumerate() {
             let decides = known[at].map_or("never reached".to_owned(), |known| decides(instruction, at, known));
-            let line = format!("{} {at:>4}  {:<15}  {decides}", gutter(&lanes, at), text(instruction));
+            let line = format!("{} {at:>4}  {:<15}  {decides}", gutter(&lanes, at), text(instruction, known[at]));
             write!(to, "{}{}", if at == 0 { "" } else { "\n" }, line.trim_end())?;
         }
         Ok(())
@@ -46,6 +46,11 @@ fn is_equality(code: u16) -> bool {
 
 fn is_bit_test(code: u16) -> bool {
     code == 0x45
+}
+
+// equal, greater and at least, but not a test of bits
+fn is_comparison(code: u16) -> bool {
+    is_jump(code) && !is_bit_test(code) && code != 0x05
 }
 
 fn is_return(code: u16) -> bool {
@@ -76,8 +81,9 @@ fn name(code: u16) -> &'static str {
     }
 }
 
-fn operand(instruction: &sock_filter) -> String {
-    let k = Number(u64::from(instruction.k));
+fn operand(instruction: &sock_filter, known: Option<Known>) -> String {
+    let k = instruction.k;
+    let compares_number = is_comparison(instruction.code) && known.is_some_and(|known| known.word == Some(NUMBER));
     match (class(instruction.code), instruction.code & 0xf8) {
         (0, 0x20) => format!("[{k}]"),
         (0 | 1, 0x60) | (2 | 3, _) => format!("M[{k}]"),
@@ -86,12 +92,13 @@ fn operand(instruction: &sock_filter) -> String {
         (5, 0x00) => format!("+{k}"),
         (6, 0x10) => "a".to_owned(),
         (4 | 5, other) if other & 8 != 0 => "x".to_owned(),
-        _ => k.to_string(),
+        _ if compares_number => CallNumber(k).to_string(),
+        _ => Value(u64::from(k)).to_string(),
     }
 }
 
-fn text(instruction: &sock_filter) -> String {
-    format!("{:<4} {}", name(instruction.code), operand(instruction))
+fn text(instruction: &sock_filter, known: Option<Known>) -> String {
+    format!("{:<4} {}", name(instruction.code), operand(instruction, known))
 }
 
 // ---- what is known at an instruction, of all ways that lead to it
@@ -182,7 +189,7 @@ fn decides(instruction: &sock_filter, at: usize, known: Known) -> String {
         let action = Action::from_word(instruction.k).map_or("no known action".to_owned(), |action| action.to_string());
         format!("{}{action}", whose(known))
     } else if code == 0x54 {
-        format!("masked by {}", operand(instruction))
+        format!("masked by {}", operand(instruction, Some(known)))
     } else {
         String::new()
     }
@@ -201,9 +208,9 @@ fn word_name(offset: u32) -> String {
 fn whose(known: Known) -> String {
     match (known.architecture, known.number) {
         (Which::Other, _) => "other architectures: ".to_owned(),
-        (_, Which::Is(number)) => format!("call {number}: "),
+        (_, Which::Is(number)) => format!("call {}: ", CallNumber(number)),
         (_, Which::Other) => "other calls: ".to_owned(),
-        (_, Which::With(bits)) => format!("calls with a bit of {}: ", Number(u64::from(bits))),
+        (_, Which::With(bits)) => format!("calls with a bit of {}: ", Value(u64::from(bits))),
         _ => String::new(),
     }
 }
@@ -212,7 +219,7 @@ fn question(instruction: &sock_filter, known: Known) -> String {
     let k = instruction.k;
     let architecture = Architecture::ALL.into_iter().find(|known| known.word() == k);
     match (is_equality(instruction.code), known.word, architecture) {
-        (true, Some(NUMBER), _) => return format!("call {k}?"),
+        (true, Some(NUMBER), _) => return format!("call {}?", CallNumber(k)),
         (true, Some(ARCHITECTURE), Some(architecture)) => return format!("{architecture}?"),
         _ => {}
     }
@@ -224,7 +231,7 @@ fn question(instruction: &sock_filter, known: Known) -> String {
         _ if call.is_empty() => "any bit of".to_owned(),
         _ => format!("{call}with a bit of"),
     };
-    format!("{asked} {}?", operand(instruction))
+    format!("{asked} {}?", operand(instruction, Some(known)))
 }
 
 fn answers(instruction: &sock_filter, at: usize) -> String {

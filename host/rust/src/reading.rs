@@ -4,7 +4,8 @@ use std::iter::from_fn;
 
 use crate::architecture::NATIVE_ONLY;
 use crate::boundary::{self, Answer, Compared, Cursor, Decision};
-use crate::{Action, Architecture, Condition, Error, Operator, Place, Rule, RuleSet, Width};
+use crate::filter::LONGEST;
+use crate::{sock_filter, Action, Architecture, Condition, Error, Filter, Operator, Place, Rule, RuleSet, Width};
 
 /// The rule set that bytes stand for.
 pub(crate) fn set_of(bytes: &[u8]) -> Result<RuleSet, Error> {
@@ -34,9 +35,17 @@ pub(crate) fn refusal(answer: Answer, set: &[u8]) -> Error {
         boundary::INDEX_ABOVE_FIVE | boundary::MORE_THAN_32_BITS => parts
             .condition(answer.entry as usize, answer.rule as usize, answer.condition as usize)
             .expect_err("no condition can be made of what compiling refuses"),
-        boundary::TOO_MANY_INSTRUCTIONS => Error::TooManyInstructions { count: answer.count, place: parts.place(answer) },
+        boundary::TOO_MANY_INSTRUCTIONS => {
+            Error::TooManyInstructions { count: answer.count, place: parts.place(answer), search: search_count(set) }
+        }
         _ => Error::NotOfTheFormat,
     }
+}
+
+/// How many instructions a search has, where it compiles.
+fn search_count(set: &[u8]) -> Option<u32> {
+    let answer = boundary::compile_search(set, &mut [sock_filter::default(); LONGEST]);
+    (answer.code == 0).then_some(answer.count)
 }
 
 struct Entry {

@@ -4,7 +4,8 @@ use std::collections::BTreeMap;
 use std::fmt;
 use std::ops::Deref;
 
-use crate::{reading, writing, Action, Architecture, Call, Condition, Error, Filter};
+use crate::words::CallNumber;
+use crate::{boundary, reading, writing, Action, Architecture, Call, Condition, Error, Filter};
 
 /// Conditions that must all hold.
 pub type Rule = Vec<Condition>;
@@ -323,7 +324,7 @@ impl fmt::Display for RuleSet {
         write!(to, "on any other architecture{others}: {elsewhere}")?;
         for (number, entry) in &self.calls {
             let both = entry.always && !entry.rules.is_empty();
-            let listed = format!("call {number} matches{}", if both { " always, and" } else { "" });
+            let listed = format!("call {} matches{}", CallNumber(*number), if both { " always, and" } else { "" });
             write!(to, "\n{listed}")?;
             for (place, rule) in entry.rules.iter().enumerate() {
                 let joined = if place == 0 { " if".to_owned() } else { format!("\n{:>width$}", "or", width = listed.len() + 3) };

@@ -110,7 +110,7 @@ fn a_guard_asks_for_bits_of_calls() -> Result<(), Error> {
         [
             "ld [0] call number",
             "jset 0x40000000 call with a bit of 0x40000000? no → 7",
-            "jeq 0xffffffff call 4294967295? yes → 7",
+            "jeq 0xffffffff call 0xffffffff? yes → 7",
             "ret 0x80000000 calls with a bit of 0x40000000: kill process",
             "jeq 7 call 7? no → 9",
             "ja +1 call 7: → 10",
@@ -126,6 +126,32 @@ fn a_guard_asks_for_bits_of_calls() -> Result<(), Error> {
          kill process
 call 7 matches"
     );
+    Ok(())
+}
+
+#[test]
+fn values_are_hexadecimal_from_ten_on_and_native_numbers_decimal() -> Result<(), Error> {
+    let mut set = RuleSet::new(Architecture::X86_64, Action::Errno(1), Action::Allow);
+    // ioctl, by KVM_RUN and KVM_CREATE_VCPU
+    for value in [9, 10, 44672, 0x4020_ae46] {
+        set.call(16).rule(&[Condition::new(1, Width::Dword, Operator::Eq, value)?]);
+    }
+    set.call(65535).call(65536).rule(&[Condition::new(0, Width::Qword, Operator::MaskedEq(15), 7)?]);
+    let values = ["9", "0xa", "0xae80", "0x4020ae46"];
+    let rules = values.map(|value| format!("argument 1 (low 32 bits) = {value}"));
+    let told = set.to_string();
+    let lines: Vec<&str> = told.lines().skip(1).map(str::trim_start).collect();
+    assert_eq!(lines[0], format!("call 16 matches if {}", rules[0]));
+    assert_eq!(lines[1..4], [1, 2, 3].map(|at| format!("or {}", rules[at])));
+    assert_eq!(lines[4..], ["call 65535 matches", "call 0x10000 matches if argument 0 & 0xf = 7"]);
+    let texts = texts(&set.compile()?);
+    assert_eq!(texts[4], "jeq 16 call 16? no → 6");
+    for value in values {
+        assert!(texts.iter().any(|text| text.starts_with(&format!("jeq {value} = {value}?"))), "{value}");
+    }
+    for text in ["jeq 65535 call 65535?", "jeq 0x10000 call 0x10000?", "and 0xf masked by 0xf", "ld [24] argument 1, low half"] {
+        assert!(texts.iter().any(|line| line.starts_with(text)), "{text}");
+    }
     Ok(())
 }
 

@@ -150,6 +150,20 @@ fn a_dword_condition_of_more_than_32_bits_is_named() {
         bytes[CONDITIONS[2].0 + 12] = 1;
         assert_eq!(both(&bytes), refused);
     }
+    // what has only ones above the 32 bits is a negative number: as a qword it would never match
+    for (number, advice) in [
+        (-100_i64 as u64, "has more: cut it to 0xffffff9c; the bits above are no part of an int, and calls mostly have zeros there"),
+        (!3, "has more: cut it to 0xfffffffc; the bits above are no part of an int, and calls mostly have zeros there"),
+        (0xffff_fffe_ffff_ff9c, "has more; compare a qword, or cut the number"),
+        (1 << 32, "has more; compare a qword, or cut the number"),
+    ] {
+        for made in [Condition::new(0, Width::Dword, Operator::Eq, number), Condition::new(0, Width::Dword, Operator::MaskedEq(number), 0)]
+        {
+            assert!(made.unwrap_err().to_string().ends_with(advice), "{number:#x}");
+        }
+    }
+    let cut = Condition::new(0, Width::Dword, Operator::Eq, (-100_i32 as u32).into()).unwrap();
+    assert_eq!(cut.to_string(), "argument 0 (low 32 bits) = 0xffffff9c");
     for width in [Width::Dword, Width::Qword] {
         let made = Condition::new(0, width, Operator::MaskedEq(1 << 33), 0);
         assert_eq!(made.err(), (width == Width::Dword).then_some(Error::MoreThan32Bits { number: 1 << 33, place: None }));
@@ -170,10 +184,12 @@ fn a_filter_that_is_too_long_is_counted() {
     longest.call(816).rule(&[Condition::new(0, Width::Qword, Operator::MaskedEq(1), 1).unwrap()]);
     assert_eq!(longest.compile().unwrap().len(), 4096);
     for (number, count) in [(900, 4101), (901, 4106)] {
-        assert_eq!(longest.call(number).compile(), Err(Error::TooManyInstructions { count, place: in_entry(817, 900) }));
+        let short = longest.call(number).compile_search().unwrap().len() as u32;
+        let refused = Error::TooManyInstructions { count, place: in_entry(817, 900), search: Some(short) };
+        assert_eq!(longest.compile(), Err(refused));
     }
     set.call(818);
-    assert_eq!(set.compile(), Err(Error::TooManyInstructions { count: 4100, place: in_entry(818, 818) }));
+    assert_eq!(set.compile(), Err(Error::TooManyInstructions { count: 4100, place: in_entry(818, 818), search: Some(7) }));
     // it has a meaning and a byte form all the same
     assert_eq!(set.decide(&Call::new(Architecture::X86_64, 818, [0; 6])), Ok(Action::Allow));
     assert_eq!(RuleSet::from_bytes(&set.to_bytes().unwrap()).as_ref(), Ok(&set));
@@ -181,7 +197,7 @@ fn a_filter_that_is_too_long_is_counted() {
     let mut bytes = set.call(900).rule(&[condition()]).to_bytes().unwrap();
     let value = bytes.len() - 16;
     bytes[value + 4] = 1;
-    assert_eq!(Filter::compile(&bytes), Err(Error::TooManyInstructions { count: 4107, place: in_entry(818, 818) }));
+    assert_eq!(Filter::compile(&bytes), Err(Error::TooManyInstructions { count: 4107, place: in_entry(818, 818), search: None }));
     let refused = Error::MoreThan32Bits { number: 1 << 32 | 1, place: Some(in_condition(819, 900, 0, 0)) };
     assert_eq!(RuleSet::from_bytes(&bytes), Err(refused));
 }
@@ -201,11 +217,11 @@ fn a_guard_counts_into_the_length() {
         set
     };
     assert_eq!((listing(818).compile().unwrap().len(), native(817).compile().unwrap().len()), (4095, 4093));
-    let refused = Error::TooManyInstructions { count: 4098, place: in_entry(817, 817) };
+    let refused = Error::TooManyInstructions { count: 4098, place: in_entry(817, 817), search: Some(10) };
     assert_eq!(native(818).compile(), Err(refused));
     // a set that is too long is read back with its flag
     let bytes = native(900).to_bytes().unwrap();
-    assert_eq!(Filter::compile(&bytes), Err(Error::TooManyInstructions { count: 4508, place: in_entry(817, 817) }));
+    assert_eq!(Filter::compile(&bytes), Err(Error::TooManyInstructions { count: 4508, place: in_entry(817, 817), search: Some(10) }));
     assert!(RuleSet::from_bytes(&bytes) == Ok(native(900)));
 }
 
@@ -237,7 +253,7 @@ fn a_search_that_is_too_long_is_counted() {
     };
     assert_eq!(spread(3018).compile_search().unwrap().len(), 4096);
     let refused = spread(3019).compile_search().unwrap_err();
-    assert_eq!(refused, Error::TooManyInstructions { count: 4097, place: in_entry(3018, 6036) });
+    assert_eq!(refused, Error::TooManyInstructions { count: 4097, place: in_entry(3018, 6036), search: None });
     assert_eq!(
         refused.to_string(),
         "entry 3018 (call 6036): with it the filter gets too long; in all it would have 4097 instructions, and at most 4096 are compiled: list \
@@ -251,8 +267,17 @@ fn a_search_that_is_too_long_is_counted() {
     for number in 0..819 {
         row.call(number);
     }
-    assert_eq!(row.compile(), Err(Error::TooManyInstructions { count: 4100, place: in_entry(818, 818) }));
+    assert_eq!(row.compile(), Err(Error::TooManyInstructions { count: 4100, place: in_entry(818, 818), search: Some(7) }));
     assert_eq!(row.compile_search().unwrap().len(), 7);
+    assert_eq!(
+        row.compile().unwrap_err().to_string(),
+        "entry 818 (call 818): with it the filter gets too long; in all it would have 4100 instructions, and at most 4096 are compiled: \
+         compile_search makes a filter of 7 that does the same"
+    );
+    // neither form is short enough
+    let refused = spread(3019).compile().unwrap_err();
+    assert!(matches!(refused, Error::TooManyInstructions { search: None, .. }));
+    assert!(refused.to_string().ends_with("list fewer calls or conditions"));
 }
 
 #[test]
@@ -351,10 +376,18 @@ fn errors_are_told_as_errors() {
             "entry 3 (call 257), rule 0, condition 2: a dword condition looks at 32 bits, and 0x100000000 has more",
         ),
         (
-            Error::TooManyInstructions { count: 4100, place: in_entry(818, 818) },
+            Error::TooManyInstructions { count: 4100, place: in_entry(818, 818), search: Some(7) },
             "entry 818 (call 818): with it the filter gets too long",
         ),
-        (Error::TooManyInstructions { count: 4100, place: in_entry(818, 818) }, "4100 instructions, and at most 4096 are compiled"),
+        (
+            Error::TooManyInstructions { count: 4100, place: in_entry(818, 818), search: Some(7) },
+            "4100 instructions, and at most 4096 are compiled",
+        ),
+        (Error::AlwaysAndByRules(0x4000_0005), "call 0x40000005 is listed without rules"),
+        (
+            Error::NotAscending { place: in_entry(1, 65536), behind: u32::MAX },
+            "entry 1 (call 0x10000): the one before it lists call 0xffffffff",
+        ),
         (Error::AlwaysAndByRules(5), "call 5 is listed without rules, to match always, and once more with rules"),
         (Error::SetTooLong, "more than 1 MiB"),
         (Error::NotTaken, "the kernel would not take these bytes as a filter"),
