@@ -1,7 +1,7 @@
 #!/usr/bin/env python3
 """The gate's tests of what hosts get: the header against the archive, in C and C++; the Rust crate with its tests and the examples of its
-documentation, wrong uses that must not compile among them; what the demo prints. The last line is 'N passed, M failed', with ', K skipped'
-behind it for what this machine has no tool for."""
+documentation, wrong uses that must not compile among them; that neither links with an archive of another interface; a host that embeds its
+filter; what the demo prints. The last line is 'N passed, M failed', with ', K skipped' behind it for what this machine has no tool for."""
 import os
 import pathlib
 import re
@@ -75,6 +75,11 @@ def header(tally):
     tally.check("the header declares what the archive exports, and nothing else", sorted(declared) == sorted(exported) and exported,
                 f"declared {sorted(declared)}, exported {sorted(exported)}")
     tally.check("each function has its promise in two lines above it", promised == declared, set(declared) - set(promised))
+    wanted = re.findall(r" U (\w+)$", run("nm", "--undefined-only", archive.ARCHIVE)[1], re.MULTILINE)
+    sections = re.findall(r"\] (\S+)", run("readelf", "--section-headers", "--wide", archive.ARCHIVE)[1])
+    tally.check("the archive needs memset and nothing else", wanted == ["memset"], wanted)
+    notes = [name for name in sections if name.startswith((".note", ".eh_frame"))]
+    tally.check("it has a note that its stack is not executed, no other, and nothing to unwind by", notes == [".note.GNU-stack"], notes)
     own = r"(?m)^\w[\w *]*\bcallfilter_\w+\([^;{]*\);|\}\s*callfilter_\w+;"
     apart = [path.name for path in (ROOT / "tests").rglob("*.[ch]") if re.search(own, path.read_text())]
     tally.check("tests in C have no declarations of their own", re.search(own, text) and not apart, apart)
@@ -150,17 +155,20 @@ def header_kept_apart(tally):
 
 def crate_kept_apart(tally, rustc):
     """The same of the crate, by the first function that such a host would call."""
-    for called in ("Filter::accepted(&[])", "Filter::compile(&[]).is_ok()", "Filter::compile_search(&[]).is_ok()"):
-        host = TARGET / "apart.rs"
-        host.write_text(f"use callfilter::Filter;\nfn main() {{ println!(\"{{}}\", {called}) }}\n")
+    crates = {}
 
-        def build(library):
-            crate = TARGET / "libapart.rlib"
+    def around(library):
+        if library not in crates:
+            crates[library] = TARGET / f"libapart{len(crates)}.rlib"
             link = ("-L", f"native={library.parent}", "-l", "static=callfilter")
-            made = run(*rustc, "--crate-type", "rlib", "--crate-name", "callfilter", CRATE / "src" / "lib.rs", *link, "-o", crate)
-            return made if made[0] else run(*rustc, host, "--extern", f"callfilter={crate}", "-o", TARGET / "apart")
+            run(*rustc, "--crate-type", "rlib", "--crate-name", "callfilter", CRATE / "src" / "lib.rs", *link, "-o", crates[library])
+        return crates[library]
 
-        kept_apart(tally, f"the crate, by {called.split('(')[0]},", build)
+    host = TARGET / "apart.rs"
+    for called in ("Filter::accepted(&[])", "Filter::compile(&[]).is_ok()", "Filter::compile_search(&[]).is_ok()"):
+        host.write_text(f"use callfilter::Filter;\nfn main() {{ println!(\"{{}}\", {called}) }}\n")
+        kept_apart(tally, f"the crate, by {called.split('(')[0]},",
+                   lambda library: run(*rustc, host, "--extern", f"callfilter={around(library)}", "-o", TARGET / "apart"))
 
 
 # ---- the crate
@@ -204,6 +212,20 @@ def cargo(tally, expected):
     tally.check("the demo by cargo", status == 0 and said == expected, said)
     status, said = run(*words, env={**environment, "CALLFILTER_LIB": str(HERE)})
     tally.check("without the archive cargo says what to do", status != 0 and "make it by `rt staticlib callfilter`" in said, said)
+    status, said = run(*words, env={**environment, "CALLFILTER_LIB": "target/staticlib"})
+    tally.check("a folder that is no whole path is refused with one that is", status != 0 and '"$PWD"/target/staticlib' in said, said)
+    status, said = run(*words, env={**environment, "CALLFILTER_LIB": str(archive.ARCHIVE.parent)})
+    tally.check("the demo by cargo, with a folder that is named", status == 0 and said == expected, said)
+    embedded(tally, environment)
+
+
+def embedded(tally, environment):
+    """A host whose filter is made when it is built: its bytes, and that nothing of the archive is in it."""
+    words = ("cargo", "run", "--quiet", "--offline", "--manifest-path", ROOT / "host" / "embedded" / "Cargo.toml")
+    status, said = run(*words, env=environment)
+    tally.check("the embedded filter is the one spelled out", status == 0 and said == (HERE / "embedded.txt").read_text(), said)
+    status, said = run("nm", TARGET / "cargo" / "debug" / "embedded")
+    tally.check("and the archive is no part of its host", status == 0 and "main" in said and "callfilter" not in said, said[:1000])
 
 
 # ---- the demo

@@ -25,8 +25,9 @@
 //! # Ok::<(), callfilter::Error>(())
 //! ```
 //!
-//! The archive is made by `rt staticlib callfilter`, and found where that puts it or in the folder that the environment variable
-//! `CALLFILTER_LIB` names. It links only into programs for x86-64.
+//! The archive is made by `rt staticlib callfilter`, and found where that puts it or in the folder whose whole path the environment
+//! variable `CALLFILTER_LIB` is. It links only into programs for x86-64. A host for another machine has this crate as a build dependency,
+//! and embeds the bytes of a [`Filter`] that its build script makes.
 //!
 //! Installing a filter is left to the host: a [`Filter`] is a slice of [`sock_filter`], whose pointer and length are what `prctl(2)` and
 //! `seccomp(2)` ask for.

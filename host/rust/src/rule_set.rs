@@ -5,7 +5,7 @@ use std::fmt;
 use std::ops::Deref;
 
 use crate::words::CallNumber;
-use crate::{boundary, reading, writing, Action, Architecture, Call, Condition, Error, Filter};
+use crate::{reading, writing, Action, Architecture, Call, Condition, Error, Filter};
 
 /// Conditions that must all hold.
 pub type Rule = Vec<Condition>;
