@@ -2,10 +2,10 @@
 use mathlib.Core.Path.{_≡_, refl, ap, sym, _∙_}
 use mathlib.Core.Bool.{Bool, true, false, cond}
 use mathlib.Core.List.{List, _++_, append-assoc}
-use Prim.Native.Nat.{ℕ, _+_, _*_, _/_, _%_, _^_, _≤_, _<_}
+use Prim.Native.Nat.{ℕ, _+_, _-_, _*_, _/_, _%_, _^_, _≤_, _<_}
 use native.Mathlib.Omega.{arith}
 use lib.Dec.{eqb, leb}
-use lib.ListN.{length, take, drop, length-drop, length-append, take-append-drop}
+use lib.ListN.{length, take, drop, length-take, length-drop, length-append, take-append-drop}
 use lib.Seq.{length-take-le, take-append-le, drop-append-le, drop-drop}
 use borrow.Author.Tests.{eq-eqb, eqb-true, eqb-false, leb-true}
 use Rattle.definitions.specs.declared.Outcome.{Outcome}
@@ -51,14 +51,19 @@ module _ (l : List ℕ) (at a b : ℕ) (room : at + 8 ≤ length l) where
 pub length-outcome : (o : Outcome) → length (outcomeBytes o) ≡ 8
 length-outcome o = simp (length-append, length-bytes)
 
+-- the part of the bytes that is a call
+pub part-call : (calls : List ℕ) (i : ℕ) → take (64 * i + 64 - 64 * i) (drop (64 * i) calls) ≡ callIn calls i
+part-call calls i = let n : 64 * i + 64 - 64 * i ≡ 64 = omega arith in rw n
+
 -- what a run came to, put at its place
 pub put-one : (filter calls : List ℕ) (i : ℕ) (before after call : List ℕ) (o : Outcome)
-    → acceptsBytes filter ≡ true → call ≡ callIn calls i → length call ≡ 64
+    → acceptsBytes filter ≡ true → call ≡ callIn calls i → 64 * i + 64 ≤ length calls
     → o ≡ ended (runs (filterOf filter) (callOf call)) (steps (filterOf filter) (callOf call))
     → o .action < 2 ^ 32 → o .steps < 2 ^ 32
     → 8 * i + 8 ≤ length before → after ≡ place before (8 * i) (outcomeBytes o) → Put filter calls i before after
 unfolding outcomeOf
-put-one filter calls i before after call o t e size ran a s room w =
+put-one filter calls i before after call o t e inside ran a s room w =
+    let size : length call ≡ 64 = rw (e, length-take, length-drop) (omega arith) in
     let all : outcomeOf filter call ≡ o = rw (eq-eqb (length call) 64 size, t) (sym ran) in
     let there = answered filter call t size in
     let zero : o .code ≡ 0 = ap (λ (x : Outcome). x .code) (sym all ∙ there .1) in

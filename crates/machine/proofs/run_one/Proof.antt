@@ -1,10 +1,9 @@
 -- `run_one` meets its contract: what the run came to is put at its place.
-use mathlib.Core.Path.{_≡_}
-use Prim.Native.Nat.{_+_, _-_, _*_}
+use denote.Ref.{now}
 use native.Mathlib.Omega.{arith}
 use lib.ListN.{length-take, length-drop}
 use Rattle.checks.proofs.Walk.{accepts-short}
-use Rattle.machine.proofs.Many.{put-one}
+use Rattle.machine.proofs.Many.{part-call, put-one}
 use borrow.Author.Needs.{needs}
 use Rattle.machine.proofs.run_one.Statement.{statement}
 use Rattle.machine.proofs.run_one.Tie as tie
@@ -38,8 +37,7 @@ same-length c = search needs
 
 returns : tie.Need-returns
 returns c =
-    let e : 64 * c .before .before .before .before .before .before .before .before .before .args .i + 64 - 64 * c .before .before .before .before .before .before .before .before .before .args .i ≡ 64 = omega arith in
-    put-one _ _ _ _ _ _ _ (c .before .before .before .before .before .before .before .before .before .pre .0) (rw e) (rw (length-take, length-drop) (omega arith)) (c .before .before .before .before .follow .ensures) (omega (arith, c .before .before .before .before .follow .ok)) (omega (arith, c .before .before .before .before .follow .ok)) (omega arith) (c .before .before .write-outcome .ensures)
+    put-one _ _ _ _ _ _ _ (c .before .before .before .before .before .before .before .before .before .pre .0) (part-call (now (c .before .before .before .before .before .before .before .before .before .args .calls)) (c .before .before .before .before .before .before .before .before .before .args .i)) (omega arith) (c .before .before .before .before .follow .ensures) (omega (arith, c .before .before .before .before .follow .ok)) (omega (arith, c .before .before .before .before .follow .ok)) (omega arith) (c .before .before .write-outcome .ensures)
 
 pub run-one-spec : {M : Type 1} → statement M
 run-one-spec =
