@@ -1,7 +1,7 @@
 """Weakens one definition at a time and leaves everything else alone: the theorems must refuse it.
 
 The prover's own must-fail edits try a definition inside its own crate, where worked examples refuse it. Here the examples are left
-out, so that what refuses is the theorem, in the file that refused-by.txt names."""
+out, so that what refuses is the theorem, in the crate and file that refused-by.txt names."""
 import concurrent.futures, pathlib, re, shutil, subprocess, sys
 
 here = pathlib.Path(__file__).resolve().parent
@@ -25,23 +25,41 @@ def apply(edit, crate):
             path.write_text(text.replace(old, line[5:]))
 
 
+def below(crate):
+    """A crate and those that it depends on, each with its line of crates.txt, in order."""
+    lines = [line.partition(":") for line in (root / "crates.txt").read_text().splitlines() if line and not line.startswith("#")]
+    needed = {crate, *next(names.split() for name, _, names in lines if name == crate)}
+    return {name: f"{name}:{names}" for name, _, names in lines if name in needed}
+
+
+def without_examples(folder):
+    for file in folder.glob("*Examples.antt"):
+        file.unlink()
+    listing = folder / "Lib.antt"
+    listing.write_text("".join(line + "\n" for line in listing.read_text().splitlines() if not line.endswith("Examples")))
+
+
 def attempt(label, wanted):
+    crate, _, file = wanted.partition("/")
     folder = work / label
     shutil.rmtree(folder, ignore_errors=True)
-    for crate, parts in (("definitions", ("src", "specs")), ("theorems", ("src", "specs", "proofs"))):
-        for part in parts:
-            shutil.copytree(root / "crates" / crate / part, folder / "crates" / crate / part)
-    (folder / "crates.txt").write_text("definitions:\ntheorems: definitions\n")
+    crates = below(crate)
+    for name in crates:
+        for part in ("src", "specs") if name == "definitions" else ("src", "specs", "proofs"):
+            shutil.copytree(root / "crates" / name / part, folder / "crates" / name / part)
+    without_examples(folder / "crates" / crate / "proofs")
+    (folder / "crates.txt").write_text("".join(line + "\n" for line in crates.values()))
     own = here / f"{label}.edit"
     apply(own if own.exists() else root / "crates" / "definitions" / "must-fail" / f"{label}.edit", folder / "crates" / "definitions")
-    done = subprocess.run(["rt", "check", "theorems"], cwd=folder, capture_output=True, text=True)
+    done = subprocess.run(["rt", "check", crate], cwd=folder, capture_output=True, text=True)
     log = folder / "target" / "log"
     if "logic=proved" not in (log / "definitions.out").read_text():
         return False, "the definitions themselves were refused"
     if done.returncode != 1:
         return False, f"NOT REFUSED (exit {done.returncode})"
-    refusing = set(re.findall(r"proofs/(\w+)\.antt:\d+:\d+: error", (log / "theorems.out").read_text()))
-    return wanted in refusing, f"refused in {', '.join(sorted(refusing)) or 'no proof'}" + ("" if wanted in refusing else f", and not in {wanted}")
+    said = log / f"{crate}.out"
+    refusing = set(re.findall(r"proofs/(\w+)\.antt:\d+:\d+: error", said.read_text() if said.exists() else ""))
+    return file in refusing, f"refused in {', '.join(sorted(refusing)) or 'no proof'}" + ("" if file in refusing else f", and not in {wanted}")
 
 
 rows = [line.split() for line in (here / "refused-by.txt").read_text().splitlines() if line and not line.startswith("#")]

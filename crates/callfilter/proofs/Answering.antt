@@ -16,15 +16,14 @@ use Rattle.definitions.specs.Machine.{filterBytes}
 use Rattle.definitions.specs.Emitted.{emitted}
 use Rattle.definitions.specs.RuleSet.{RuleSet}
 use Rattle.definitions.specs.Format.{read}
-use Rattle.definitions.specs.Answer.{fault, nowhere, placeless, unless, tooMany, filterFaults, tooLong, leastOf, turnsLong, countWith, answer, emittedSize, answerBy, answerOf}
+use Rattle.definitions.specs.Answer.{fault, nowhere, placeless, unless, tooMany, filterFaults, tooLong, leastOf, turnsLong, countWith, answer, emittedSize, answerBy, answerOf, searchSize, searchAnswerOf}
 use Rattle.definitions.specs.Compiled.{Compiled, Searched}
 use Rattle.theorems.proofs.Lengths.{length-emitted}
 use Rattle.theorems.proofs.Bytes.{length-filter}
 use Rattle.theorems.proofs.Faults.{least-append}
-use Rattle.theorems.proofs.Answers.{compiles-by, compiles, never-one}
+use Rattle.theorems.proofs.Answers.{compiles, search-compiles, never-one}
 use Rattle.theorems.proofs.Compiled.{refused, done}
-use Rattle.search_form.specs.Search.{searchForm}
-use Rattle.search_form.specs.Counts.{searchSize}
+use Rattle.definitions.specs.SearchForm.{searchForm}
 use Rattle.search_form.proofs.Shorter.{shorter}
 use Rattle.search_form.proofs.Searched as searched
 use Rattle.search_writer.specs.Forms.{firstHere}
@@ -81,9 +80,6 @@ done-compiled set before after r bytes a z p =
 
 -- ---- the same, where the filter is a search
 
-abbrev pub searchAnswer : List ℕ → ℕ → Answer
-searchAnswer s room = answerBy searchSize (turnsLong searchSize) (read s) room
-
 -- with as many entries as the head says, it is that of the set
 pub search-size : (s : List ℕ) (n size : ℕ) → n ≡ numberAt 4 s 12 → size ≡ searchSize (firstHere s n) → size ≡ searchSize (setHere s)
 unfolding setHere
@@ -105,10 +101,10 @@ pub record SearchAnswer (s : List ℕ) (room : ℕ) (j : Judged) : Type 0 where
   pub reads : Readable s
   pub small : searchSize (setHere s) ≤ j .count
   pub said : (long : ℕ) → (ltb (searchSize (setHere s)) tooMany ≡ false → long ≡ turnsLong searchSize (setHere s))
-      → searchAnswer s room ≡ answer (searchSize (setHere s)) (leastOf (j .fault) (filterFaults (searchSize (setHere s)) long room))
+      → searchAnswerOf s room ≡ answer (searchSize (setHere s)) (leastOf (j .fault) (filterFaults (searchSize (setHere s)) long room))
 
 search-by : (s : List ℕ) (room : ℕ) (x : Option RuleSet) → read s ≡ x → (judged x .fault .code ≡ 1 → ⊥) → SearchAnswer s room (judged x)
-unfolding judged
+unfolding judged searchAnswerOf
 search-by s room none e h = absurd (h refl)
 search-by s room (some rs) e h =
     let g = read-agrees s rs e in
@@ -128,21 +124,22 @@ none-by none room e = rw (no-filter _ nowhere room)
 none-by (some rs) room e = absurd (never-one rs e)
 
 pub search-none : (s : List ℕ) (room : ℕ) (j : Judged) → j ≡ judged (read s) → j .fault .code ≡ 1
-    → searchAnswer s room ≡ answer 0 (leastOf (j .fault) (filterFaults 0 nowhere room))
+    → searchAnswerOf s room ≡ answer 0 (leastOf (j .fault) (filterFaults 0 nowhere room))
+unfolding searchAnswerOf
 search-none s room j e z = rw e (none-by (read s) room (rw e at z))
 
-pub search-writable : (set : List ℕ) (room : ℕ) (r : Answer) → r ≡ searchAnswer set room → r .code ≡ 0
+pub search-writable : (set : List ℕ) (room : ℕ) (r : Answer) → r ≡ searchAnswerOf set room → r .code ≡ 0
     → Readable set × (r .count ≡ searchSize (setHere set)) × (8 * r .count ≤ room)
 unfolding answer
 search-writable set room r a z =
-    let w = compiles-by searchSize (turnsLong searchSize) set room r a z in
+    let w = search-compiles set room r a z in
     let count : r .count ≡ searchSize (w .0) = ap (λ (x : Answer). x .count) (w .1 .said) in
     (readable set (w .0) (w .1 .from), rw (← read-agrees set (w .0) (w .1 .from) .0) count, rw count (w .1 .fits))
 
-pub done-searched : (set before after : List ℕ) (r : Answer) → AreBytes set → r ≡ searchAnswer set (length before) → r .code ≡ 0
-    → after ≡ place before 0 (filterBytes (searchForm (setHere set))) → Searched searchSize set before after r
+pub done-searched : (set before after : List ℕ) (r : Answer) → AreBytes set → r ≡ searchAnswerOf set (length before) → r .code ≡ 0
+    → after ≡ place before 0 (filterBytes (searchForm (setHere set))) → Searched set before after r
 unfolding place
 done-searched set before after r bytes a z p =
-    let w = compiles-by searchSize (turnsLong searchSize) set (length before) r a z in
+    let w = search-compiles set (length before) r a z in
     let g = read-agrees set (w .0) (w .1 .from) in
     searched.done set before after r (w .0) bytes a (w .1) (p ∙ rw (← g .0, zero-add, length-filter (searchForm (w .0))))

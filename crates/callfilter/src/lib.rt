@@ -6,7 +6,7 @@ ghost use mathlib.Core.Option.{some};
 ghost use lib.Dec.{eqb, ltb};
 ghost use Prim.Native.Nat.{_+_, _*_, _^_, _≤_};
 ghost use Rattle.definitions.specs.Answer as answers;
-ghost use Rattle.definitions.specs.Answer.{filterFaults, leastOf, tooMany, turnsLong};
+ghost use Rattle.definitions.specs.Answer.{filterFaults, leastOf, tooMany, turnsLong, searchSize};
 ghost use Rattle.definitions.specs.Format.{read};
 ghost use Rattle.definitions.specs.Compiled.{Compiled, Searched};
 ghost use Rattle.definitions.specs.Kernel.{acceptsBytes};
@@ -14,7 +14,6 @@ ghost use Rattle.definitions.specs.Outcome.{outcomeOf, decidedOf, RanAll};
 ghost use Rattle.definitions.specs.Parts.{withEntry, withRule, conditionPart};
 ghost use Rattle.definitions.specs.Writers.{Started, Added};
 ghost use Rattle.definitions.specs.Readers as readers;
-ghost use Rattle.search_form.specs.Counts.{searchSize};
 ghost use Rattle.set_view.specs.Parts.{mostBytes, Readable, setHere};
 use definitions::Answer;
 use definitions::Compared;
@@ -108,7 +107,7 @@ fn search_long(set: &[u8], size: usize) -> u32
 
 // The answer for a set and a room, where the filter is a search.
 fn search_verdict(set: &[u8], room: usize) -> Answer
-    ensures { λ r. ⌜ r ≡ answers.answerBy searchSize (turnsLong searchSize) (read (now (set .entry))) room ⌝ }
+    ensures { λ r. ⌜ r ≡ answers.searchAnswerOf (now (set .entry)) room ⌝ }
 {
     let fault = judge::judge(set).fault;
     // what is not of the format has no filter
@@ -122,7 +121,7 @@ fn search_verdict(set: &[u8], room: usize) -> Answer
 // Compiles a rule set into a lent buffer, as a search.
 #[no_mangle]
 pub extern "C" fn callfilter_compile_search(set: &[u8], out: &mut [u8]) -> Answer
-    ensures { λ r. ⌜ Searched searchSize (now (set .entry)) (now (out .entry)) (now (out .exit)) r ⌝ }
+    ensures { λ r. ⌜ Searched (now (set .entry)) (now (out .entry)) (now (out .exit)) r ⌝ }
 {
     let answer = search_verdict(set, out.len());
     if answer.code != 0 {

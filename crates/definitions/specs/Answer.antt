@@ -24,6 +24,7 @@ use Rattle.definitions.specs.declared.Fault.{Fault}
 use Rattle.definitions.specs.declared.Answer.{Answer}
 use Rattle.definitions.specs.RuleSet.{Rule, Entry, RuleSet, withEntries}
 use Rattle.definitions.specs.Emitted.{emitted}
+use Rattle.definitions.specs.SearchForm.{searchForm}
 use Rattle.definitions.specs.Format.{read}
 
 -- ---- what is asked of conditions and rules
@@ -158,6 +159,13 @@ answerBy size long (some rs) room = answer (size rs) (leastOf (refusal rs) (filt
 -- the answer for a byte string and a buffer of `room` bytes
 unfoldable pub answerOf : List ℕ → ℕ → Answer
 answerOf bs room = answerBy emittedSize tooLong (read bs) room
+
+-- the same where the filter is a search; it may get shorter by an entry
+abbrev pub searchSize : RuleSet → ℕ
+searchSize rs = length (searchForm rs)
+
+unfoldable pub searchAnswerOf : List ℕ → ℕ → Answer
+searchAnswerOf bs room = answerBy searchSize (turnsLong searchSize) (read bs) room
 
 -- ---- what it is to have none of the faults, by the number: what theorems speak of
 

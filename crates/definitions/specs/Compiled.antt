@@ -12,8 +12,9 @@ use Rattle.definitions.specs.Machine.{filterBytes, filterOf, Call, retur
 use Rattle.definitions.specs.Kernel.{acceptsBytes}
 use Rattle.definitions.specs.RuleSet.{Rule, RuleSet, secondTable, guarded, meaning, spanCount, rulesOf}
 use Rattle.definitions.specs.Emitted.{emitted, entryBody}
-use Rattle.definitions.specs.Format.{encode, InRange, read}
-use Rattle.definitions.specs.Answer.{turnsLong, answerBy, answerOf}
+use Rattle.definitions.specs.Format.{encode, InRange}
+use Rattle.definitions.specs.Answer.{emittedSize, searchSize, answerOf, searchAnswerOf}
+use Rattle.definitions.specs.SearchForm.{searchForm}
 
 -- bytes that are the byte form of a rule set
 pub record FormOf (rs : RuleSet) (set : List ℕ) : Type 0 where
@@ -60,12 +61,14 @@ foundSteps rs c = rulesSteps (rs .onMatch) (rs .mismatch) (rulesOf (c .number) (
 abbrev pub guardSteps : RuleSet → Call → ℕ
 guardSteps rs c = cond (guarded rs) (cond (eqb (bitAnd (c .number) secondTable) 0) 1 2) 0
 
--- what compiling into a search promises, `size` being how many instructions it makes
-pub record Searched (size : RuleSet → ℕ) (set before after : List ℕ) (r : Answer) : Type 0 where
+-- what compiling into a search promises
+pub record Searched (set before after : List ℕ) (r : Answer) : Type 0 where
   -- the answer is the smallest number that applies; with 6 an entry is named with which the filter gets too long
-  pub answer : r ≡ answerBy size (turnsLong size) (read set) (length before)
-  -- the filter is never longer than the emitted one
-  pub shorter : (rs : RuleSet) → size rs ≤ length (emitted rs)
+  pub answer : r ≡ searchAnswerOf set (length before)
+  -- The filter is the search form of the rule set, byte for byte: nothing of what the buffer held gets into it.
+  pub same : r .code ≡ 0 → (rs : RuleSet) → FormOf rs set → filterIn r after ≡ filterBytes (searchForm rs)
+  -- it is never longer than the emitted one
+  pub shorter : (rs : RuleSet) → searchSize rs ≤ emittedSize rs
   -- With at most 2 ^ k spans of listed numbers a run takes at most k + max 6 k instructions until the number's rules begin, or its return,
   -- and beside them what a guard takes; then what the rules take by themselves, or that return.
   pub quick : r .code ≡ 0 → (rs : RuleSet) → FormOf rs set → (c : Call) (k : ℕ) → spanCount (rs .entries) ≤ 2 ^ k

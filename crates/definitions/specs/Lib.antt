@@ -3,6 +3,7 @@ pub mod Machine
 pub mod Kernel
 pub mod RuleSet
 pub mod Emitted
+pub mod SearchForm
 pub mod Format
 pub mod Answer
 pub mod Compiled

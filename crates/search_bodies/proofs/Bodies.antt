@@ -11,7 +11,7 @@ use Rattle.definitions.specs.Machine.{instructionBytes, filterBytes}
 use Rattle.definitions.specs.Emitted.{return, ruleBodies, entryBody}
 use Rattle.bpf.specs.Place.{place, Writing}
 use Rattle.bpf.proofs.Buffer.{put-first}
-use Rattle.search_form.specs.Search.{bodies}
+use Rattle.definitions.specs.SearchForm.{bodies}
 use Rattle.set_view.specs.Parts.{behind, entriesHere, entriesPast, entryHere, entryPast, parts, rulesHere}
 use Rattle.set_view.proofs.Walk.{entry-further, entry-inside}
 

@@ -3,7 +3,7 @@ use Prim.Native.Nat.{ℕ}
 use mathlib.Core.List.{List}
 use Rattle.definitions.specs.declared.Instruction.{Instruction}
 use Rattle.definitions.specs.Word.{numberAt}
-use Rattle.search_form.specs.Search.{bodies}
+use Rattle.definitions.specs.SearchForm.{bodies}
 use Rattle.set_view.specs.Parts.{entriesHere}
 
 -- n entries from a place, in the set's own actions

@@ -5,7 +5,7 @@ ghost use Prim.Native.Nat.{ℕ, _+_, _*_, _≤_};
 ghost use lib.ListN.{length};
 ghost use Rattle.definitions.specs.Machine.{filterBytes};
 ghost use Rattle.bpf.specs.Place.{place};
-ghost use Rattle.search_form.specs.Search.{bodies};
+ghost use Rattle.definitions.specs.SearchForm.{bodies};
 ghost use Rattle.definitions.specs.Emitted.{entryBody};
 ghost use Rattle.set_view.specs.Parts.{Reach, entriesHere, entriesPast, rulesHere, rulesPast};
 ghost use Rattle.search_bodies.specs.Here.{bodiesHere};

@@ -19,7 +19,7 @@ use Rattle.theorems.proofs.Conditions.{Goes}
 use Rattle.theorems.proofs.Heads.{cond-returns}
 use Rattle.theorems.proofs.Rules.{IndexTaken, body-right, rules-right}
 use Rattle.theorems.proofs.Right.{EntryTaken}
-use Rattle.search_form.specs.Search.{bodies, toMatch, toRules, Span, entrySpans, spans, ground}
+use Rattle.definitions.specs.SearchForm.{bodies, toMatch, toRules, Span, entrySpans, spans, ground}
 use Rattle.definitions.specs.Compiled.{rulesSteps}
 use Rattle.search_form.proofs.Grow.{seek, Sorted}
 use Rattle.search_form.proofs.Spans.{seek-alone, seek-plain, Rising, spans-sorted}

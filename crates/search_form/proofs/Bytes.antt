@@ -1,6 +1,6 @@
 -- BYTES: decoding the bytes of the search form gives it back, so that what holds of it holds of the bytes.
 use Rattle.theorems.proofs.Bytes.{filter-back, shaped-fits}
-use Rattle.search_form.specs.Search.{searchForm}
+use Rattle.definitions.specs.SearchForm.{searchForm}
 use Rattle.search_form.specs.Statements.{Bytes}
 use Rattle.search_form.proofs.Taken.{form-sound}
 

@@ -12,7 +12,7 @@ use Rattle.definitions.specs.RuleSet.{Architecture, x86-64, aarch64, architectu
 use Rattle.definitions.specs.Emitted.{load, maskBy, ifEqual, ifGreater, ifAtLeast, ifAnyBit, return, highTests, lowTests, highPart, lowPart, conditionCode, helpers, near, stepCode, stepDistance, conditionsCode, numberCode, headCode, ruleBody, entryBody}
 use Rattle.definitions.proofs.Examples.RuleSet.{compared, allow, errno, call}
 use Rattle.definitions.proofs.Examples.Emitted.{worked}
-use Rattle.search_form.specs.Search.{bodies, plainSpans, entrySpans, spans, endsBy, upTo, link, chain, singles, few, lowest, blockIf, grow, away, nearPlace, nearReturn, plantLeaf, openBlock, comparing, compareFirst, plant, ground, tree, planted, searchForm}
+use Rattle.definitions.specs.SearchForm.{bodies, plainSpans, entrySpans, spans, endsBy, upTo, link, chain, singles, few, lowest, blockIf, grow, away, nearPlace, nearReturn, plantLeaf, openBlock, comparing, compareFirst, plant, ground, tree, planted, searchForm}
 
 -- the worked rule set: 27 instructions, where the emitted form has 36
 worked-form : searchForm worked ≡

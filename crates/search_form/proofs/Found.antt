@@ -12,7 +12,7 @@ use Rattle.definitions.specs.declared.Instruction.{Instruction}
 use Rattle.definitions.specs.Machine.{Call, State, Result, returns, run}
 use Rattle.definitions.specs.Emitted.{jumpBy, return}
 use Rattle.theorems.proofs.Steps.{run-jump, run-return, run-suc}
-use Rattle.search_form.specs.Search.{jumpReach, blockReach, blockSpans, chainSpans, Destination, toMismatch, toMatch, toRules, Span, Comparison, atLeast, Tree, leaf, node, block, endsBy, upTo, link, chain, singles, few, lower, upper, middle, fitsBlock, blockIf, grow, Form, Spot, away, nearPlace, nearReturn, plantLeaf, openBlock, compareFirst, plant}
+use Rattle.definitions.specs.SearchForm.{jumpReach, blockReach, blockSpans, chainSpans, Destination, toMismatch, toMatch, toRules, Span, Comparison, atLeast, Tree, leaf, node, block, endsBy, upTo, link, chain, singles, few, lower, upper, middle, fitsBlock, blockIf, grow, Form, Spot, away, nearPlace, nearReturn, plantLeaf, openBlock, compareFirst, plant}
 use Rattle.theorems.proofs.Tests.{both-true}
 use Rattle.search_form.proofs.Cases.{cond-case}
 use Rattle.search_form.proofs.Grow.{isSingle, few-most, few-not, halves, grown, passes, find, Compares, Fronted, chain-fronted, halves-fronted}

@@ -8,7 +8,7 @@ use lib.Dec.{eqb, leb, ltb}
 use lib.ListN.{length, take, drop, length-take, length-drop}
 use borrow.Author.Tests.{ltb-true, ltb-false, leb-true, leb-false, eqb-true, eqb-false, le-leb, lt-leb}
 use Rattle.theorems.proofs.Tests.{both-true, either-true}
-use Rattle.search_form.specs.Search.{chainSpans, Destination, toMismatch, Span, Comparison, equal, atLeast, above, Tree, leaf, node, block, endsBy, upTo, link, chain, singles, few, lower, upper, lowest, middle, fitsBlock, blockIf, grow}
+use Rattle.definitions.specs.SearchForm.{chainSpans, Destination, toMismatch, Span, Comparison, equal, atLeast, above, Tree, leaf, node, block, endsBy, upTo, link, chain, singles, few, lower, upper, lowest, middle, fitsBlock, blockIf, grow}
 use Rattle.search_form.proofs.Cases.{cond-case, elim-case}
 
 -- ---- few spans, and two halves

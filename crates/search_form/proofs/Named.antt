@@ -3,9 +3,8 @@ use mathlib.Core.List.{[]}
 use native.Mathlib.Omega.{arith}
 use borrow.Author.Tests.{lt-ltb, ltb-true}
 use Rattle.definitions.specs.RuleSet.{RuleSet, withEntries}
-use Rattle.definitions.specs.Answer.{tooMany, emittedSize}
+use Rattle.definitions.specs.Answer.{tooMany, emittedSize, searchSize}
 use Rattle.theorems.proofs.Named.{short-without, turns-named}
-use Rattle.search_form.specs.Counts.{searchSize}
 use Rattle.search_form.specs.Statements.{SearchNamed}
 use Rattle.search_form.proofs.Shorter.{shorter}
 

@@ -4,7 +4,7 @@ use native.Mathlib.Omega.{arith}
 use Rattle.definitions.specs.Machine.{start, setA}
 use Rattle.definitions.specs.Compiled.{foundSteps}
 use Rattle.theorems.proofs.Right.{each-index}
-use Rattle.search_form.specs.Search.{planted, searchForm}
+use Rattle.definitions.specs.SearchForm.{planted, searchForm}
 use Rattle.search_form.specs.Statements.{Quick}
 use Rattle.search_form.proofs.Spans.{rising, spans-count}
 use Rattle.search_form.proofs.Steps.{head-count}

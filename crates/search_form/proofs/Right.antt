@@ -13,7 +13,7 @@ use Rattle.definitions.specs.Format.{Each}
 use Rattle.theorems.proofs.Steps.{run-return}
 use Rattle.theorems.proofs.Heads.{headed-right}
 use Rattle.theorems.proofs.Right.{EntryTaken, each-index}
-use Rattle.search_form.specs.Search.{Span, spans, grow, Form, plant, ground, tree, planted, searchForm}
+use Rattle.definitions.specs.SearchForm.{Span, spans, grow, Form, plant, ground, tree, planted, searchForm}
 use Rattle.definitions.specs.Compiled.{rulesSteps}
 use Rattle.definitions.specs.RuleSet.{rulesOf}
 use Rattle.search_form.specs.Statements.{Right}

@@ -8,7 +8,7 @@ use Rattle.definitions.specs.declared.Width.the-variants.{Dword, Qword}
 use Rattle.definitions.specs.RuleSet.{x86-64, architectureWord, hasSecondTable, Entry, RuleSet, guarded}
 use Rattle.definitions.specs.Emitted.{load, maskBy, ifEqual, ifGreater, ifAtLeast, return, highTests, lowTests, highPart, lowPart, conditionCode, helpers, near, stepCode, stepDistance, conditionsCode, numberCode, headCode, ruleBody}
 use Rattle.definitions.proofs.Examples.RuleSet.{compared}
-use Rattle.search_form.specs.Search.{plainSpans, endsBy, upTo, link, chain, singles, few, lowest, blockIf, grow, away, nearPlace, nearReturn, plantLeaf, openBlock, comparing, compareFirst, plant}
+use Rattle.definitions.specs.SearchForm.{plainSpans, endsBy, upTo, link, chain, singles, few, lowest, blockIf, grow, away, nearPlace, nearReturn, plantLeaf, openBlock, comparing, compareFirst, plant}
 use Rattle.search_form.specs.Rules.{isEquality, sameWidth, wordAt, half, looksAt, leftOf, alike, conditionLooks, looks, only, joining, addCase, byFirst, cases, layEntry, lay, grown, fronted, mismatching, oneByOne, searched, patterned, pattern, alikes, others, byWords, ruled, shorterOf, entryForm, bottom, rulesPlanted, rulesForm}
 
 abbrev monitor : RuleSet

@@ -18,7 +18,7 @@ use Rattle.theorems.proofs.Steps.{run-return}
 use Rattle.theorems.proofs.Heads.{headed-right}
 use Rattle.theorems.proofs.Right.{EntryTaken, each-index}
 use Rattle.theorems.proofs.Rules.{IndexTaken}
-use Rattle.search_form.specs.Search.{Span, entrySpans, plainSpans, Form}
+use Rattle.definitions.specs.SearchForm.{Span, entrySpans, plainSpans, Form}
 use Rattle.search_form.specs.Counts.{searchMost}
 use Rattle.search_form.specs.Rules.{Laid, layEntry, lay, oneByOne, ruled, rulesMost, shorterOf, entryForm, bottom, rulesPlanted, rulesForm}
 use Rattle.search_form.specs.Statements.{RulesRight}

@@ -21,7 +21,7 @@ use Rattle.theorems.proofs.Steps.{run-load, run-return, fetch-low, fetch-high}
 use Rattle.theorems.proofs.Conditions.{Goes, cond-or}
 use Rattle.theorems.proofs.Heads.{cond-returns}
 use Rattle.theorems.proofs.Rules.{IndexTaken, body-right, rules-right}
-use Rattle.search_form.specs.Search.{Span, toMatch, toRules, plainSpans, grow, Form, plant}
+use Rattle.definitions.specs.SearchForm.{Span, toMatch, toRules, plainSpans, grow, Form, plant}
 use Rattle.search_form.specs.Rules.{Look, wordAt, half, cases, Laid, layEntry, lay, grown, fronted, mismatching, oneByOne, searched, pattern, alikes, others, byWords, ruled}
 use Rattle.search_form.proofs.Cases.{cond-case}
 use Rattle.search_form.proofs.Grow.{seek, find, Sorted, tree-right}

@@ -9,7 +9,7 @@ use lib.ListN.{length, length-append}
 use borrow.Author.Tests.{leb-true, le-leb}
 use Rattle.definitions.specs.RuleSet.{Rule, Entry}
 use Rattle.definitions.specs.Emitted.{return, ruleBodies, entryCode, entriesCode, numbersCode, bodyCode, rulesCode, emitted}
-use Rattle.search_form.specs.Search.{toRules, grow, Form, plant, chain, blockIf, openBlock, plantLeaf, nearReturn, away}
+use Rattle.definitions.specs.SearchForm.{toRules, grow, Form, plant, chain, blockIf, openBlock, plantLeaf, nearReturn, away}
 use Rattle.search_form.specs.Rules.{Look, cases, Laid, layEntry, lay, grown, fronted, mismatching, oneByOne, searched, pattern, alikes, others, byWords, ruled, rulesMost, shorterOf, entryForm, bottom, rulesPlanted, rulesForm}
 use Rattle.search_form.specs.Statements.{RulesShorter}
 use Rattle.theorems.proofs.Tests.{both-true}

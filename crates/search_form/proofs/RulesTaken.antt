@@ -21,7 +21,7 @@ use Rattle.theorems.specs.Shape.{LandsAs, Shaped}
 use Rattle.theorems.proofs.Tests.{both-true, each-both}
 use Rattle.search_form.proofs.RuleCases.{no, Fits, fits-none, fits-first, index-taken, rests-fit, cases-rest, others-each, alikes-fit, alikes-each}
 use Rattle.theorems.proofs.Taken.{Sound, ends-cons, ends-append, return-last, Good, GoodEntry, action-small, good-entries, headed-sound, sound-taken}
-use Rattle.search_form.specs.Search.{grow, Form}
+use Rattle.definitions.specs.SearchForm.{grow, Form}
 use Rattle.search_form.specs.Rules.{isEquality, sameWidth, Look, wordAt, half, looksAt, leftOf, only, joining, addCase, byFirst, cases, Laid, layEntry, lay, grown, fronted, mismatching, oneByOne, searched, pattern, alikes, others, byWords, ruled, rulesMost, shorterOf, entryForm, bottom, rulesPlanted, rulesForm}
 use Rattle.search_form.specs.Statements.{RulesTaken}
 use Rattle.search_form.proofs.Cases.{cond-case}

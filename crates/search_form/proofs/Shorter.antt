@@ -8,7 +8,7 @@ use lib.ListN.{length, length-append}
 use borrow.Author.Tests.{eq-eqb}
 use Rattle.definitions.specs.RuleSet.{Rule, Entry}
 use Rattle.definitions.specs.Emitted.{return, rulesCode, bodyCode, entryCode, entriesCode, numbersCode, emitted, ruleBodies, entryBody}
-use Rattle.search_form.specs.Search.{bodies, Destination, toMatch, toRules, Span, alone, plainSpans, entrySpans, spans, chain, blockIf, grow, away, nearReturn, plantLeaf, openBlock, plant, ground, tree, planted, searchForm}
+use Rattle.definitions.specs.SearchForm.{bodies, Destination, toMatch, toRules, Span, alone, plainSpans, entrySpans, spans, chain, blockIf, grow, away, nearReturn, plantLeaf, openBlock, plant, ground, tree, planted, searchForm}
 use Rattle.search_form.specs.Statements.{Shorter}
 use Rattle.theorems.proofs.Lengths.{rules-shorter}
 use Rattle.search_form.proofs.Spans.{plain-case, spans-some}

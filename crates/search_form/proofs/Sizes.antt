@@ -10,7 +10,7 @@ use lib.ListN.{length, take, drop}
 use borrow.Author.Tests.{ltb-false, leb-true, leb-false, lt-ltb, le-ltb}
 use Rattle.definitions.specs.declared.Instruction.{Instruction}
 use Rattle.definitions.specs.Emitted.{return}
-use Rattle.search_form.specs.Search.{jumpReach, blockReach, blockSpans, chainSpans, Destination, toMismatch, toMatch, toRules, Span, Comparison, atLeast, Tree, leaf, node, block, endsBy, upTo, link, chain, singles, few, lower, upper, middle, fitsBlock, blockIf, grow, Form, Spot, away, nearPlace, nearReturn, plantLeaf, openBlock, compareFirst, plant}
+use Rattle.definitions.specs.SearchForm.{jumpReach, blockReach, blockSpans, chainSpans, Destination, toMismatch, toMatch, toRules, Span, Comparison, atLeast, Tree, leaf, node, block, endsBy, upTo, link, chain, singles, few, lower, upper, middle, fitsBlock, blockIf, grow, Form, Spot, away, nearPlace, nearReturn, plantLeaf, openBlock, compareFirst, plant}
 use Rattle.search_form.proofs.Cases.{cond-case, cond-cases}
 use Rattle.search_form.proofs.Grow.{isSingle, few-most, few-not, halves, grown, Compares}
 

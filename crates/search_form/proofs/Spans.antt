@@ -11,7 +11,7 @@ use borrow.Author.Tests.{ltb-true, leb-true, leb-false, eqb-true, eqb-false, le-
 use Rattle.definitions.specs.RuleSet.{Rule, Entry}
 use Rattle.definitions.specs.Answer.{ascending}
 use Rattle.theorems.proofs.Tests.{both-true}
-use Rattle.search_form.specs.Search.{bodies, Destination, toMismatch, toMatch, toRules, Span, isMatch, alone, plainSpans, entrySpans, spans}
+use Rattle.definitions.specs.SearchForm.{bodies, Destination, toMismatch, toMatch, toRules, Span, isMatch, alone, plainSpans, entrySpans, spans}
 use Rattle.definitions.specs.RuleSet.{noRules, together, spanCount}
 use Rattle.search_form.proofs.Grow.{within, seek, Sorted}
 use Rattle.search_form.proofs.Cases.{cond-case, cond-cases}

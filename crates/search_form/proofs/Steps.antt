@@ -15,7 +15,7 @@ use Rattle.definitions.specs.RuleSet.{architectureWord, RuleSet, secondTable, c
 use Rattle.definitions.specs.Emitted.{load, jumpBy, ifEqual, ifAnyBit, return, guard, numberCode, headCode, headed}
 use Rattle.definitions.specs.Compiled.{guardSteps}
 use Rattle.theorems.proofs.Steps.{run-equal, run-greater, run-at-least, fetch-number, fetch-architecture}
-use Rattle.search_form.specs.Search.{Comparison, equal, atLeast, above, comparing}
+use Rattle.definitions.specs.SearchForm.{Comparison, equal, atLeast, above, comparing}
 use Rattle.search_form.proofs.Grow.{passes}
 
 -- how many instructions are run from n into p on

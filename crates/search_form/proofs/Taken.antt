@@ -16,7 +16,7 @@ use Rattle.definitions.specs.Emitted.{jumpBy, ifEqual, ifGreater, ifAtLeast, re
 use Rattle.theorems.specs.Shape.{LandsAs, Shaped}
 use Rattle.theorems.proofs.Sequence.{sequence-keeps}
 use Rattle.theorems.proofs.Taken.{Sound, ends-cons, return-sound, return-last, Good, GoodEntry, body-sound, action-small, good-entries, headed-sound, sound-taken}
-use Rattle.search_form.specs.Search.{jumpReach, blockReach, bodies, Destination, toMismatch, toMatch, toRules, Span, plainSpans, entrySpans, spans, Comparison, equal, atLeast, above, Tree, leaf, node, block, endsBy, upTo, link, chain, lowest, middle, fitsBlock, blockIf, grow, Form, Spot, away, nearPlace, nearReturn, plantLeaf, openBlock, comparing, compareFirst, plant, ground, tree, planted, searchForm}
+use Rattle.definitions.specs.SearchForm.{jumpReach, blockReach, bodies, Destination, toMismatch, toMatch, toRules, Span, plainSpans, entrySpans, spans, Comparison, equal, atLeast, above, Tree, leaf, node, block, endsBy, upTo, link, chain, lowest, middle, fitsBlock, blockIf, grow, Form, Spot, away, nearPlace, nearReturn, plantLeaf, openBlock, comparing, compareFirst, plant, ground, tree, planted, searchForm}
 use Rattle.search_form.specs.Statements.{Taken}
 use Rattle.search_form.proofs.Cases.{cond-case}
 use Rattle.search_form.proofs.Grow.{isSingle, grown}

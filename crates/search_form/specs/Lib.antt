@@ -1,4 +1,3 @@
-pub mod Search
 pub mod Counts
 pub mod Statements
 pub mod Rules

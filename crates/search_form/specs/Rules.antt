@@ -16,7 +16,7 @@ use Rattle.definitions.specs.declared.Instruction.{Instruction}
 use Rattle.definitions.specs.Word.{low, high}
 use Rattle.definitions.specs.RuleSet.{Rule, Entry, RuleSet}
 use Rattle.definitions.specs.Emitted.{load, return, lowAt, highAt, headed, ruleBodies}
-use Rattle.search_form.specs.Search.{Span, alone, plainSpans, toRules, grow, Form, plant}
+use Rattle.definitions.specs.SearchForm.{Span, alone, plainSpans, toRules, grow, Form, plant}
 
 -- ---- what of a rule is looked at
 

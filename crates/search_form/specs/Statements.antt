@@ -8,11 +8,11 @@ use Rattle.definitions.specs.Kernel.{accepts}
 use Rattle.definitions.specs.RuleSet.{RuleSet, meaning}
 use Rattle.definitions.specs.Emitted.{emitted}
 use Rattle.definitions.specs.Format.{InRange}
-use Rattle.definitions.specs.Answer.{ascending, indicesTaken}
+use Rattle.definitions.specs.Answer.{ascending, indicesTaken, searchSize}
 use Rattle.theorems.specs.Named.{TurnsNamed}
-use Rattle.search_form.specs.Search.{searchForm}
+use Rattle.definitions.specs.SearchForm.{searchForm}
 use Rattle.search_form.specs.Rules.{rulesForm}
-use Rattle.search_form.specs.Counts.{searchMost, searchSize}
+use Rattle.search_form.specs.Counts.{searchMost}
 use Rattle.definitions.specs.Compiled.{guardSteps, foundSteps}
 use Rattle.definitions.specs.RuleSet.{spanCount}
 

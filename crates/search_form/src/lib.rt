@@ -1,1 +1,1 @@
-// The search form of a filter is defined in specs/, and what holds of it is proved in proofs/. There is no code here.
+// What holds of the search form of a filter is stated in specs/ and proved in proofs/. There is no code here.

@@ -9,7 +9,7 @@ use lib.Dec.{leb}
 use lib.ListN.{length, take, drop, length-drop}
 use lib.Seq.{length-take-le, take-take}
 use Rattle.theorems.proofs.Tests.{both-true}
-use Rattle.search_form.specs.Search.{Span, singles, few, lowest, chain, node, atLeast, blockIf, grow}
+use Rattle.definitions.specs.SearchForm.{Span, singles, few, lowest, chain, node, atLeast, blockIf, grow}
 use Rattle.search_form.proofs.Grow.{few-not}
 
 drop-take : (h n : ℕ) (xs : List Span) → h ≤ n → drop h (take n xs) ≡ take (n - h) (drop h xs)

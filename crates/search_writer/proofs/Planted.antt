@@ -12,11 +12,10 @@ use Rattle.definitions.specs.Word.{numberAt}
 use Rattle.definitions.specs.Machine.{filterBytes}
 use Rattle.definitions.specs.RuleSet.{guarded, withEntries}
 use Rattle.definitions.specs.Emitted.{headCode}
-use Rattle.definitions.specs.Answer.{tooMany, shortWith}
+use Rattle.definitions.specs.Answer.{tooMany, shortWith, searchSize}
 use Rattle.bpf.specs.Place.{place, placeBefore}
 use Rattle.bpf.proofs.Buffer.{puts-before, before-is}
-use Rattle.search_form.specs.Search.{jumpReach, blockReach, bodies, toMismatch, toMatch, toRules, Tree, leaf, node, block, grow, Form, plantLeaf, openBlock, plant, ground, tree, planted, searchForm}
-use Rattle.search_form.specs.Counts.{searchSize}
+use Rattle.definitions.specs.SearchForm.{jumpReach, blockReach, bodies, toMismatch, toMatch, toRules, Tree, leaf, node, block, grow, Form, plantLeaf, openBlock, plant, ground, tree, planted, searchForm}
 use Rattle.search_form.proofs.Sizes.{place-adds, return-adds, compare-size}
 use Rattle.search_form.proofs.Shorter.{planted-none}
 use Rattle.search_bodies.specs.Here.{bodiesHere}

@@ -14,7 +14,7 @@ use Rattle.definitions.specs.Emitted.{jumpBy, return}
 use Rattle.theorems.proofs.Tests.{both-true}
 use Rattle.bpf.specs.Place.{place}
 use Rattle.bpf.proofs.Buffer.{put-first, puts-before, before-is}
-use Rattle.search_form.specs.Search.{toMismatch, Span, singles, chain, blockReach, openBlock, blockIf, endsBy, upTo, link, Comparison, equal, atLeast, above, Tree, leaf, node, Spot, inFront, jumpReach, away, nearPlace, nearReturn, plantLeaf, comparing, compareFirst, plant}
+use Rattle.definitions.specs.SearchForm.{toMismatch, Span, singles, chain, blockReach, openBlock, blockIf, endsBy, upTo, link, Comparison, equal, atLeast, above, Tree, leaf, node, Spot, inFront, jumpReach, away, nearPlace, nearReturn, plantLeaf, comparing, compareFirst, plant}
 use Rattle.spans.specs.Spans.{destination}
 use Rattle.spans.proofs.Reading.{take-more, singles-more}
 use Rattle.search_writer.specs.declared.Reached.{Reached}

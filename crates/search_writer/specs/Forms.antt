@@ -9,9 +9,9 @@ use Rattle.definitions.specs.declared.Instruction.{Instruction}
 use Rattle.definitions.specs.Word.{numberAt}
 use Rattle.definitions.specs.Machine.{filterBytes}
 use Rattle.bpf.specs.Place.{placeBefore}
-use Rattle.search_form.specs.Search.{Form, Spot, nearReturn, openBlock, Comparison, equal, atLeast, above, planted}
 use Rattle.definitions.specs.RuleSet.{RuleSet, withEntries}
 use Rattle.set_view.specs.Parts.{entriesHere, setHere}
+use Rattle.definitions.specs.SearchForm.{Form, Spot, nearReturn, openBlock, Comparison, equal, atLeast, above, planted}
 use Rattle.search_writer.specs.declared.Marks.{Marks}
 use Rattle.search_writer.specs.declared.Reached.{Reached}
 

@@ -10,7 +10,7 @@ use lib.ListN.{length, take, drop}
 use Rattle.definitions.specs.Word.{numberAt}
 use Rattle.definitions.specs.RuleSet.{Entry}
 use Rattle.theorems.proofs.Tests.{both-true}
-use Rattle.search_form.specs.Search.{bodies, toMatch, toRules, Span, isMatch, alone, plainSpans, entrySpans, spans, lowest, singles}
+use Rattle.definitions.specs.SearchForm.{bodies, toMatch, toRules, Span, isMatch, alone, plainSpans, entrySpans, spans, lowest, singles}
 use Rattle.search_form.proofs.Spans.{spans-some}
 use Rattle.search_bodies.specs.Here.{bodiesHere}
 use Rattle.search_bodies.proofs.Bodies.{entries-here, bodies-long, bodies-there, entry-body-none}

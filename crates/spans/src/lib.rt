@@ -6,7 +6,7 @@ ghost use Prim.Native.Nat.{_+_, _≤_};
 ghost use lib.Dec.{eqb};
 ghost use lib.ListN.{length, take, drop};
 ghost use Rattle.definitions.specs.Word.{numberAt};
-ghost use Rattle.search_form.specs.Search.{singles, few};
+ghost use Rattle.definitions.specs.SearchForm.{singles, few};
 ghost use Rattle.set_view.specs.Parts.{Reach, entriesPast, plainHere};
 ghost use Rattle.spans.specs.Spans.{spansFrom, Stands, Passes, Gathers, IsNext};
 

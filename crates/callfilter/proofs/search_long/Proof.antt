@@ -2,8 +2,7 @@
 use borrow.Author.Tests.{ltb-false, le-ltb}
 use native.Mathlib.Omega.{arith}
 use denote.Ref.{now}
-use Rattle.definitions.specs.Answer.{tooMany}
-use Rattle.search_form.specs.Counts.{searchSize}
+use Rattle.definitions.specs.Answer.{tooMany, searchSize}
 use Rattle.set_view.specs.Parts.{setHere}
 use Rattle.callfilter.proofs.search_long.Statement.{statement}
 use Rattle.callfilter.proofs.search_long.Tie as tie

@@ -73,8 +73,8 @@ abbrev listing : List Entry → List ℕ
 listing es = encode (record { architecture = x86-64; nativeOnly = false; mismatch = errno 1; onMatch = allow; entries = es })
 
 -- number 8, with a rule that is good and one that is not
-abbrev second : Rule → List ℕ
-second r = listing (plain 7 ∷ record { number = 8; rules = least 0 ∷ r ∷ [] } ∷ [])
+abbrev secondRule : Rule → List ℕ
+secondRule r = listing (plain 7 ∷ record { number = 8; rules = least 0 ∷ r ∷ [] } ∷ [])
 
 -- the set, the call, the action and the fault
 record Row : Type 0 where
@@ -97,9 +97,9 @@ table =
     ∷ row [] call 0 (placeless 1)
     ∷ row (listing (plain 6 ∷ plain 7 ∷ plain 7 ∷ [])) call 0 (fault 2 2 nowhere nowhere)
     ∷ row (ruled allow (least 0)) call 0 (placeless 3)
-    ∷ row (second []) call 0 (fault 4 1 1 nowhere)
-    ∷ row (second (compared Ge Qword 0 0 0 ∷ compared Ge Qword 6 0 0 ∷ [])) call 0 (fault 5 1 1 1)
-    ∷ row (second (compared Ge Dword 0 (2 ^ 32) 0 ∷ [])) call 0 (fault 8 1 1 0)
+    ∷ row (secondRule []) call 0 (fault 4 1 1 nowhere)
+    ∷ row (secondRule (compared Ge Qword 0 0 0 ∷ compared Ge Qword 6 0 0 ∷ [])) call 0 (fault 5 1 1 1)
+    ∷ row (secondRule (compared Ge Dword 0 (2 ^ 32) 0 ∷ [])) call 0 (fault 8 1 1 0)
     -- 9 first, whatever the set
     ∷ row (ruled (errno 1) (least 0)) (0 ∷ call) 0 (placeless 9)
     ∷ row [] (take 63 call) 0 (placeless 9)

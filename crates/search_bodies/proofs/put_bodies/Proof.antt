@@ -7,7 +7,7 @@ use denote.Ref.{now}
 use Rattle.definitions.specs.Word.{numberAt}
 use Rattle.bpf.specs.Place.{Writing}
 use Rattle.bpf.proofs.Buffer.{write-begin, write-turn, write-room}
-use Rattle.search_form.specs.Search.{bodies}
+use Rattle.definitions.specs.SearchForm.{bodies}
 use Rattle.definitions.specs.Emitted.{entryBody}
 use Rattle.set_view.specs.Parts.{entriesHere, entriesPast, entryPast, rulesHere}
 use Rattle.set_view.proofs.Walk.{behind-more, entry-inside, entry-past}

@@ -7,7 +7,7 @@ use borrow.Fn.Kinds.{In}
 use borrow.Fn.PlainCycle.{Measures, is, falls, and}
 use lib.ListN.{take}
 use denote.Ref.{now}
-use Rattle.search_form.specs.Search.{equal, chain}
+use Rattle.definitions.specs.SearchForm.{equal, chain}
 use Rattle.spans.specs.Spans.{spansFrom, spanOf}
 use Rattle.spans.proofs.Reading.{span-left, length-less}
 use Rattle.spans.proofs.next_run.Reads as next-run-reads

@@ -10,7 +10,7 @@ use lib.Dec.{leb}
 use lib.ListN.{take}
 use denote.Ref.{now}
 use Rattle.bpf.proofs.u32_at.Reads as u32-at-reads
-use Rattle.search_form.specs.Search.{atLeast, node, chain, grow}
+use Rattle.definitions.specs.SearchForm.{atLeast, node, chain, grow}
 use Rattle.search_bodies.proofs.Bodies.{entry-room}
 use Rattle.spans.specs.Spans.{spansFrom}
 use Rattle.spans.proofs.Reading.{span-left, lowest-here}

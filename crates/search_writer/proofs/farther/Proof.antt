@@ -6,8 +6,7 @@ use mathlib.Core.Path.{refl}
 use native.Mathlib.Omega.{arith}
 use denote.Ref.{now}
 use Rattle.definitions.specs.Word.{numberAt}
-use Rattle.definitions.specs.Answer.{tooMany}
-use Rattle.search_form.specs.Counts.{searchSize}
+use Rattle.definitions.specs.Answer.{tooMany, searchSize}
 use Rattle.search_writer.specs.Forms.{firstHere}
 use Rattle.search_writer.proofs.Planted.{all-entries, first-inside, first-long, planted-longer, short-first}
 use Rattle.search_writer.proofs.farther.Statement.{statement}

@@ -6,8 +6,7 @@ use Prim.Native.Nat.{ℕ, _+_, _/_, _^_, _≤_}
 use native.Mathlib.Omega.{arith}
 use lib.ListN.{take}
 use denote.Ref.{now}
-use Rattle.definitions.specs.Answer.{shortWith, halved, turnsLong}
-use Rattle.search_form.specs.Counts.{searchSize}
+use Rattle.definitions.specs.Answer.{shortWith, halved, turnsLong, searchSize}
 use Rattle.set_view.specs.Parts.{setHere}
 use Rattle.search_writer.proofs.Turning.{half-width, halved-turn, halved-end}
 use Rattle.search_writer.proofs.long_entry.Statement.{statement}

@@ -1,7 +1,7 @@
 -- `near_place` meets its contract: the place is near, or a jump in front leads there.
 use native.Mathlib.Omega.{arith}
 use borrow.Author.Needs.{needs}
-use Rattle.search_form.specs.Search.{nearPlace}
+use Rattle.definitions.specs.SearchForm.{nearPlace}
 use Rattle.search_writer.proofs.Planting.{reach-kept, reach-front, place-kept, place-front}
 use Rattle.search_writer.proofs.near_place.Statement.{statement}
 use Rattle.search_writer.proofs.near_place.Tie as tie

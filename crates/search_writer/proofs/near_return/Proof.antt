@@ -2,7 +2,7 @@
 use mathlib.Core.Path.{sym, _∙_}
 use native.Mathlib.Omega.{arith}
 use borrow.Author.Needs.{needs}
-use Rattle.search_form.specs.Search.{nearReturn}
+use Rattle.definitions.specs.SearchForm.{nearReturn}
 use Rattle.search_writer.proofs.Planting.{reach-kept, reach-front, return-kept, return-front, away-near}
 use Rattle.search_writer.proofs.near_return.Statement.{statement}
 use Rattle.search_writer.proofs.near_return.Tie as tie

@@ -2,7 +2,7 @@
 use mathlib.Core.Path.{refl}
 use native.Mathlib.Omega.{arith}
 use borrow.Author.Needs.{needs}
-use Rattle.search_form.specs.Search.{toMismatch, atLeast, leaf, upTo}
+use Rattle.definitions.specs.SearchForm.{toMismatch, atLeast, leaf, upTo}
 use Rattle.spans.specs.Spans.{spanOf}
 use Rattle.search_writer.proofs.Planting.{node-makes, mismatch-leaf, link-from, link-above}
 use Rattle.search_writer.proofs.put_interval.Statement.{statement}

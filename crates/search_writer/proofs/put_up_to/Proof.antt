@@ -2,7 +2,7 @@
 use mathlib.Core.Path.{refl, sym, _∙_}
 use native.Mathlib.Omega.{arith}
 use borrow.Author.Needs.{needs}
-use Rattle.search_form.specs.Search.{toMismatch, above, leaf}
+use Rattle.definitions.specs.SearchForm.{toMismatch, above, leaf}
 use Rattle.spans.specs.Spans.{spanOf, destination}
 use Rattle.search_writer.proofs.Planting.{node-makes, mismatch-leaf, up-to-end, up-to-on}
 use Rattle.search_writer.proofs.put_up_to.Statement.{statement}

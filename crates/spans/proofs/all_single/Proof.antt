@@ -5,7 +5,7 @@ use native.Mathlib.Omega.{arith}
 use borrow.Author.Tests.{eq-eqb, ne-eqb}
 use lib.ListN.{length, take}
 use denote.Ref.{now}
-use Rattle.search_form.specs.Search.{singles}
+use Rattle.definitions.specs.SearchForm.{singles}
 use Rattle.spans.specs.Spans.{spansFrom, spanOf, Stands}
 use Rattle.spans.proofs.Reading.{span-left, take-more, take-zero, length-less, singles-more, singles-none}
 use Rattle.spans.proofs.all_single.Statement.{statement}

@@ -5,7 +5,7 @@ use Prim.Native.Nat.{_+_, _≤_}
 use native.Mathlib.Omega.{arith}
 use lib.ListN.{length}
 use denote.Ref.{now}
-use Rattle.search_form.specs.Search.{Span}
+use Rattle.definitions.specs.SearchForm.{Span}
 use Rattle.search_bodies.proofs.Bodies.{entries-eight}
 use Rattle.spans.specs.Spans.{spansFrom, Stands}
 use Rattle.spans.proofs.Reading.{spans-none}

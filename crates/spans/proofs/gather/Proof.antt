@@ -5,7 +5,7 @@ use Prim.Native.Nat.{_≤_}
 use native.Mathlib.Omega.{arith}
 use lib.ListN.{length}
 use denote.Ref.{now}
-use Rattle.search_form.specs.Search.{plainSpans}
+use Rattle.definitions.specs.SearchForm.{plainSpans}
 use Rattle.search_bodies.specs.Here.{bodiesHere}
 use Rattle.set_view.specs.Parts.{entriesPast}
 use Rattle.spans.specs.Spans.{spansHere, spansFrom, destination}

@@ -3,7 +3,7 @@ use borrow.Author.Needs.{needs}
 use borrow.Author.Tests.{le-leb, lt-leb}
 use lib.Seq.{length-take-le}
 use denote.Ref.{now}
-use Rattle.search_form.specs.Search.{few}
+use Rattle.definitions.specs.SearchForm.{few}
 use Rattle.spans.specs.Spans.{spansFrom}
 use Rattle.spans.proofs.is_few.Statement.{statement}
 use Rattle.spans.proofs.is_few.Tie as tie

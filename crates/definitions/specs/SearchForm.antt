@@ -1,5 +1,6 @@
 -- The filter as a search: another form of output than the emitted one, with the same meaning, never longer, and with as many
--- comparisons as halving takes. Nothing here has to be believed: the theorems of this crate tie it to the definitions.
+-- comparisons as halving takes. It is named so that every byte of a filter is fixed by its rule set. It need not be believed: what its
+-- bytes do is said of the bytes themselves (record `Searched`), and proved from the theorems of crates/search_form.
 --
 -- Listed numbers are gathered into spans, a tree of comparisons finds the span of a call's number, and the tree is planted in front of
 -- the code of all rules. It is written from the back: a place is a count of instructions from there to the filter's end, so that it
