@@ -21,7 +21,9 @@ use Rattle.definitions.specs.Compiled.{Compiled, Searched}
 use Rattle.theorems.proofs.Lengths.{length-emitted}
 use Rattle.theorems.proofs.Bytes.{length-filter}
 use Rattle.theorems.proofs.Faults.{least-append}
-use Rattle.theorems.proofs.Answers.{compiles, search-compiles, never-one}
+use Rattle.theorems.specs.Outputs.{list, search}
+use Rattle.theorems.proofs.Answers.{never-one}
+use Rattle.theorems.proofs.Outputs.{compiles-in}
 use Rattle.theorems.proofs.Compiled.{refused, done}
 use Rattle.definitions.specs.SearchForm.{searchForm}
 use Rattle.search_form.proofs.Shorter.{shorter}
@@ -63,7 +65,7 @@ answer-from s room j e = rw e (answer-by (read s) room)
 
 pub writable : (set : List ℕ) (room : ℕ) (r : Answer) → r ≡ answerOf set room → r .code ≡ 0 → Readable set × (8 * length (emitted (setHere set)) ≤ room)
 writable set room r a z =
-    let w = compiles set room r a z in
+    let w = compiles-in list set room r a z in
     (readable set (w .0) (w .1 .from), rw (← read-agrees set (w .0) (w .1 .from) .0) (w .1 .fits))
 
 pub refused-compiled : {set before after : List ℕ} {r : Answer} → r ≡ answerOf set (length before) → (r .code ≡ 0 → ⊥) → after ≡ before
@@ -74,7 +76,7 @@ pub done-compiled : (set before after : List ℕ) (r : Answer) → AreBytes set 
     → after ≡ place before 0 (filterBytes (emitted (setHere set))) → Compiled set before after r
 unfolding place
 done-compiled set before after r bytes a z p =
-    let w = compiles set (length before) r a z in
+    let w = compiles-in list set (length before) r a z in
     let g = read-agrees set (w .0) (w .1 .from) in
     done set before after r (w .0) bytes a (w .1) (p ∙ rw (← g .0, zero-add, length-filter (emitted (w .0))))
 
@@ -132,7 +134,7 @@ pub search-writable : (set : List ℕ) (room : ℕ) (r : Answer) → r ≡ searc
     → Readable set × (r .count ≡ searchSize (setHere set)) × (8 * r .count ≤ room)
 unfolding answer
 search-writable set room r a z =
-    let w = search-compiles set room r a z in
+    let w = compiles-in search set room r a z in
     let count : r .count ≡ searchSize (w .0) = ap (λ (x : Answer). x .count) (w .1 .said) in
     (readable set (w .0) (w .1 .from), rw (← read-agrees set (w .0) (w .1 .from) .0) count, rw count (w .1 .fits))
 
@@ -140,6 +142,6 @@ pub done-searched : (set before after : List ℕ) (r : Answer) → AreBytes set 
     → after ≡ place before 0 (filterBytes (searchForm (setHere set))) → Searched set before after r
 unfolding place
 done-searched set before after r bytes a z p =
-    let w = search-compiles set (length before) r a z in
+    let w = compiles-in search set (length before) r a z in
     let g = read-agrees set (w .0) (w .1 .from) in
     searched.done set before after r (w .0) bytes a (w .1) (p ∙ rw (← g .0, zero-add, length-filter (searchForm (w .0))))

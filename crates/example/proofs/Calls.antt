@@ -21,7 +21,8 @@ use Rattle.definitions.specs.Writers.{Added, Holds}
 use Rattle.definitions.specs.Readers.{headOf, atEntry, entryOf, ruleOf, comparedOf, Left}
 use Rattle.theorems.proofs.Forms.{length-condition, length-rule, length-entry}
 use Rattle.definitions.specs.Answer.{answer}
-use Rattle.theorems.proofs.Answers.{compiles}
+use Rattle.theorems.specs.Outputs.{list}
+use Rattle.theorems.proofs.Outputs.{compiles-in}
 use Rattle.readers.proofs.Back.{left-long, head-back, entry-back, rule-back, condition-back, all-read}
 use Rattle.example.specs.Worked.{Wrote, Ahead, Walked}
 
@@ -47,7 +48,7 @@ rule-added index width operator value mask first taken second q named rs held z 
 
 pub compiled-room : (set before after : List ℕ) (r : Answer) → Compiled set before after r → r .code ≡ 0 → 8 * r .count ≤ length before
 unfolding answer
-compiled-room set before after r c z = let w = compiles set (length before) r (c .answer) z in rw (w .1 .said) (w .1 .fits)
+compiled-room set before after r c z = let w = compiles-in list set (length before) r (c .answer) z in rw (w .1 .said) (w .1 .fits)
 
 pub compiled-stored : (set before after stored : List ℕ) (r : Answer) → Compiled set before after r → r .code ≡ 0 → take (8 * r .count) after ≡ stored
     → (rs : RuleSet) → FormOf rs set → filterBytes (emitted rs) ≡ stored

@@ -12,7 +12,8 @@ use Rattle.definitions.specs.Answer.{noFault}
 use Rattle.definitions.specs.Compiled.{filterIn}
 use Rattle.definitions.specs.Outcome.{outcomeOf, decided, decidedOf}
 use Rattle.theorems.proofs.RoundTrip.{read-written}
-use Rattle.theorems.proofs.Answers.{compiles}
+use Rattle.theorems.specs.Outputs.{list}
+use Rattle.theorems.proofs.Outputs.{compiles-in}
 use Rattle.theorems.specs.Statements.{Agree}
 
 abbrev code : Outcome → ℕ
@@ -30,7 +31,7 @@ decidedAction d = d .action
 pub agree : Agree
 unfolding outcomeOf decidedOf
 agree set before after r bytes p z call size =
-    let k = compiles set (length before) r (p .answer) z in
+    let k = compiles-in list set (length before) r (p .answer) z in
     let form = read-written set bytes (k .0) (k .1 .from) in
     let right = p .behaves .right z (k .0) (record { ranged = form .0; spelled = form .1 }) (callOf call) in
     let ran : outcomeOf (filterIn r after) call

@@ -14,7 +14,7 @@ use Rattle.definitions.specs.declared.Fault.{Fault}
 use Rattle.definitions.specs.declared.Answer.{Answer}
 use Rattle.definitions.specs.RuleSet.{Rule, Entry, RuleSet, oneOf}
 use Rattle.definitions.specs.Format.{read}
-use Rattle.definitions.specs.Answer.{fault, nowhere, placeless, noFault, unless, faultsOf, conditionFaults, countFaults, ruleFaults, entriesFaults, setFaults, tooMany, filterFaults, leastOf, refusal, answer, emittedSize, tooLong, turnsLong, answerBy, answerOf, searchSize, searchAnswerOf, ascending, rulesFilled, indicesTaken, widthsFit}
+use Rattle.definitions.specs.Answer.{fault, nowhere, placeless, noFault, unless, faultsOf, conditionFaults, countFaults, ruleFaults, entriesFaults, setFaults, tooMany, filterFaults, leastOf, refusal, answer, answerBy, ascending, rulesFilled, indicesTaken, widthsFit}
 use Rattle.theorems.proofs.Tests.{either-true}
 use Rattle.theorems.proofs.Faults.{least-append, least-none, least-first, has, firstOf, has-append, Among, among-append, among-unless, among-parts, among-more, among-joined, lacks, Numbered, numbered, countCodes, conditionCodes, count-codes, condition-codes, index-row, width-row, rule-row, empty-row, order-faults, rule-faults}
 
@@ -208,11 +208,3 @@ by-read size long set room r (some rs) e p z =
 pub compiles-by : (size long : RuleSet → ℕ) (set : List ℕ) (room : ℕ) (r : Answer) → r ≡ answerBy size long (read set) room → r .code ≡ 0
     → (rs : RuleSet) × Compiles size set room r rs
 compiles-by size long set room r p z = by-read size long set room r (read set) refl p z
-
-pub compiles : (set : List ℕ) (room : ℕ) (r : Answer) → r ≡ answerOf set room → r .code ≡ 0 → (rs : RuleSet) × Compiles emittedSize set room r rs
-unfolding answerOf
-compiles set room r p z = compiles-by emittedSize tooLong set room r p z
-
-pub search-compiles : (set : List ℕ) (room : ℕ) (r : Answer) → r ≡ searchAnswerOf set room → r .code ≡ 0 → (rs : RuleSet) × Compiles searchSize set room r rs
-unfolding searchAnswerOf
-search-compiles set room r p z = compiles-by searchSize (turnsLong searchSize) set room r p z

@@ -20,6 +20,9 @@ pub mod RoundTrip
 pub mod Grows
 pub mod Faults
 pub mod Answers
+pub mod Outputs
+pub mod NeverOne
+pub mod Faultless
 pub mod Compiled
 pub mod Lengths
 pub mod Agree

@@ -1,10 +1,11 @@
 -- The theorems, as statements in the words of the definitions. Each is proved in the file of proofs/ that bears its name.
-use Prim.Native.Nat.{ℕ, _-_, _/_, _≤_}
+use Prim.Native.Nat.{ℕ, _*_, _/_, _≤_}
 use mathlib.Core.Path.{_≡_}
 use mathlib.Core.Logic.{_↔_}
-use mathlib.Core.Bool.{true}
+use mathlib.Core.Bool.{true, cond}
 use mathlib.Core.List.{List}
 use mathlib.Core.Option.{some}
+use lib.Dec.{leb, ltb}
 use lib.ListN.{length}
 use Rattle.definitions.specs.declared.Instruction.{Instruction}
 use Rattle.definitions.specs.declared.Answer.{Answer}
@@ -14,10 +15,11 @@ use Rattle.definitions.specs.Kernel.{accepts, acceptsBytes}
 use Rattle.definitions.specs.RuleSet.{RuleSet, meaning, Grown}
 use Rattle.definitions.specs.Emitted.{emitted}
 use Rattle.definitions.specs.Format.{InRange, encode, read}
-use Rattle.definitions.specs.Answer.{indicesTaken}
+use Rattle.definitions.specs.Answer.{tooMany, ascending, rulesFilled, indicesTaken, widthsFit}
 use Rattle.definitions.specs.Compiled.{FormOf, filterIn, Compiled}
 use Rattle.definitions.specs.Outcome.{outcomeOf, decidedOf}
 use Rattle.theorems.specs.Length.{filterLength}
+use Rattle.theorems.specs.Outputs.{Output, sizeIn, answerIn}
 
 -- ---- of the emitted filter
 
@@ -103,3 +105,19 @@ Agree =
     → (call : List ℕ) → length call ≡ 64
     → (outcomeOf (filterIn r after) call .code ≡ 0) × (decidedOf set call .code ≡ 0)
     × (outcomeOf (filterIn r after) call .action ≡ decidedOf set call .action)
+
+-- ---- of answers, in both forms of output
+
+-- 1 is said of no bytes that are of the format
+abbrev pub NeverOne : Type 0
+NeverOne = (o : Output) (set : List ℕ) (rs : RuleSet) → read set ≡ some rs → (room : ℕ) → answerIn o set room .code ≡ 1 → ⊥
+
+-- Where numbers ascend, the actions differ, every rule has conditions, no index is above 5 and every dword condition's value and mask have
+-- 32 bits, a set compiles, unless its filter is too long or the buffer too short.
+abbrev pub Faultless : Type 0
+Faultless =
+    (o : Output) (set : List ℕ) (rs : RuleSet) → read set ≡ some rs
+    → ascending (rs .entries) ≡ true → (rs .mismatch ≡ rs .onMatch → ⊥) → rulesFilled rs ≡ true → indicesTaken rs ≡ true → widthsFit rs ≡ true
+    → (room : ℕ)
+    → (answerIn o set room .code ≡ cond (leb tooMany (sizeIn o rs)) 6 (cond (ltb room (8 * sizeIn o rs)) 7 0))
+    × (answerIn o set room .count ≡ sizeIn o rs)

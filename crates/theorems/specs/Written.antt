@@ -11,12 +11,12 @@ use Rattle.definitions.specs.declared.Condition.{Condition}
 use Rattle.definitions.specs.declared.Writer.{Writer}
 use Rattle.definitions.specs.declared.Cursor.{Cursor}
 use Rattle.definitions.specs.RuleSet.{Rule, Entry, RuleSet}
-use Rattle.definitions.specs.Emitted.{emitted}
 use Rattle.definitions.specs.Format.{InRange, encode, read}
-use Rattle.definitions.specs.Answer.{ascending, rulesFilled, indicesTaken, widthsFit, tooMany, answerOf}
+use Rattle.definitions.specs.Answer.{ascending, rulesFilled, indicesTaken, widthsFit, tooMany}
 use Rattle.definitions.specs.Parts.{lastRules}
 use Rattle.definitions.specs.Writers.{stateFits, Added, Made}
 use Rattle.definitions.specs.Readers.{headOf, entryOf, ruleOf, comparedOf, Left, HeadGiven, EntryGiven, RuleGiven, ConditionGiven}
+use Rattle.theorems.specs.Outputs.{Output, sizeIn, answerIn}
 
 -- ---- of what calls of the writers made
 
@@ -30,17 +30,18 @@ ReadBack = (rs : RuleSet) (out : List ℕ) (w : Writer) → Made rs out w → re
 
 -- compiling them never says that they are not of the format
 abbrev pub OfTheFormat : Type 0
-OfTheFormat = (rs : RuleSet) (out : List ℕ) (w : Writer) → Made rs out w → (room : ℕ) → answerOf (take (w .end) out) room .code ≡ 1 → ⊥
+OfTheFormat =
+    (o : Output) (rs : RuleSet) (out : List ℕ) (w : Writer) → Made rs out w → (room : ℕ) → answerIn o (take (w .end) out) room .code ≡ 1 → ⊥
 
 -- where the numbers were listed in ascending order, the actions differ, no rule was left without conditions, no index is above 5 and
 -- every dword condition's value and mask have 32 bits, they compile, unless the filter is too long or the buffer too short
 abbrev pub Compiling : Type 0
 Compiling =
-    (rs : RuleSet) (out : List ℕ) (w : Writer) → Made rs out w
+    (o : Output) (rs : RuleSet) (out : List ℕ) (w : Writer) → Made rs out w
     → ascending (rs .entries) ≡ true → (rs .mismatch ≡ rs .onMatch → ⊥) → rulesFilled rs ≡ true → indicesTaken rs ≡ true → widthsFit rs ≡ true
     → (room : ℕ)
-    → (answerOf (take (w .end) out) room .code ≡ cond (leb tooMany (length (emitted rs))) 6 (cond (ltb room (8 * length (emitted rs))) 7 0))
-    × (answerOf (take (w .end) out) room .count ≡ length (emitted rs))
+    → (answerIn o (take (w .end) out) room .code ≡ cond (leb tooMany (sizeIn o rs)) 6 (cond (ltb room (8 * sizeIn o rs)) 7 0))
+    × (answerIn o (take (w .end) out) room .count ≡ sizeIn o rs)
 
 -- a state that calls have made fits its buffer, says that no number is listed only where none is, and that no rule is open only where
 -- the number listed last has none

@@ -1,24 +1,22 @@
 -- Calls of the writers one after the other: the theorems of crates/theorems/specs/Written.antt.
 use mathlib.Core.Path.{_≡_, refl, ap, sym, _∙_}
-use mathlib.Core.Bool.{Bool, true, false, cond}
+use mathlib.Core.Bool.{true}
 use mathlib.Core.List.{List, [], _∷_, _++_}
-use Prim.Native.Nat.{ℕ, _+_, _*_, _≤_}
+use Prim.Native.Nat.{ℕ, _+_, _≤_}
 use native.Mathlib.Omega.{arith}
-use lib.Dec.{leb, ltb}
-use lib.ListN.{length, length-append, length-take}
-use borrow.Author.Tests.{le-leb, lt-leb, le-ltb, lt-ltb, leb-true, leb-false, ltb-true, ltb-false}
+use lib.ListN.{length, length-append, take, length-take}
+use borrow.Author.Tests.{le-leb}
 use Rattle.definitions.specs.declared.Writer.{Writer}
 use Rattle.definitions.specs.RuleSet.{Entry, RuleSet}
-use Rattle.definitions.specs.Emitted.{emitted}
 use Rattle.definitions.specs.Format.{joined, encodeEntry, encode}
-use Rattle.definitions.specs.Answer.{fault, nowhere, placeless, noFault, unless, tooMany, filterFaults, tooLong, lesser, leastOf, refusal, countWith, answer, answerOf}
 use Rattle.definitions.specs.Parts.{lastRules}
 use Rattle.definitions.specs.Writers.{RuleAt, noRule, lastRule, EntryAt, noEntry, lastEntry, Holds, stateFits, Made, begun, taken, refused}
 use Rattle.theorems.specs.Written.{Spelled, ReadBack, OfTheFormat, Compiling, Fitting, NeverStarted}
 use Rattle.theorems.proofs.Words.{length-bytes}
 use Rattle.theorems.proofs.Tests.{true-both}
 use Rattle.theorems.proofs.RoundTrip.{written-read}
-use Rattle.theorems.proofs.Answers.{answered-not-one, nothing-wrong}
+use Rattle.theorems.proofs.NeverOne.{never-one}
+use Rattle.theorems.proofs.Faultless.{faultless}
 use Rattle.writers.proofs.Codes.{code-zero}
 use Rattle.writers.proofs.Sets.{encode-entries, encode-rules, encode-conditions}
 
@@ -46,29 +44,10 @@ pub read-back : ReadBack
 read-back rs out w made = let form = made-holds made .form in rw (← form .spelled) (written-read rs (form .ranged))
 
 pub of-the-format : OfTheFormat
-unfolding answerOf answer
-of-the-format rs out w made room e = answered-not-one (length (emitted rs)) (tooLong rs) rs room (rw (read-back rs out w made) at e)
-
--- the filter's own faults, as the first of two numbers
-filter-code : (n long room : ℕ)
-    → (leastOf noFault (filterFaults n long room) .code ≡ cond (leb tooMany n) 6 (cond (ltb room (8 * n)) 7 0))
-    × (countWith (leastOf noFault (filterFaults n long room) .code) n ≡ n)
-unfolding filterFaults unless leastOf lesser
-filter-code n long room = go (ltb n tooMany) refl (leb (8 * n) room) refl
-  where
-    go : (a : Bool) → ltb n tooMany ≡ a → (b : Bool) → leb (8 * n) room ≡ b
-        → (leastOf noFault (unless a (fault 6 long nowhere nowhere) ++ unless b (placeless 7)) .code ≡ cond (leb tooMany n) 6 (cond (ltb room (8 * n)) 7 0))
-        × (countWith (leastOf noFault (unless a (fault 6 long nowhere nowhere) ++ unless b (placeless 7)) .code) n ≡ n)
-    go true p true q = rw (lt-leb tooMany n (ltb-true n tooMany p), le-ltb room (8 * n) (leb-true (8 * n) room q)) (refl, refl)
-    go true p false q = rw (lt-leb tooMany n (ltb-true n tooMany p), lt-ltb room (8 * n) (leb-false (8 * n) room q)) (refl, refl)
-    go false p true q = rw (le-leb tooMany n (ltb-false n tooMany p)) (refl, refl)
-    go false p false q = rw (le-leb tooMany n (ltb-false n tooMany p)) (refl, refl)
+of-the-format o rs out w made = never-one o (take (w .end) out) rs (read-back rs out w made)
 
 pub compiling : Compiling
-unfolding answerOf answer
-compiling rs out w made up differ filled indexed whole room =
-    let none : refusal rs ≡ noFault = unfold leastOf in rw (nothing-wrong rs up differ filled indexed whole) in
-    rw (read-back rs out w made, none) (filter-code (length (emitted rs)) (tooLong rs) room)
+compiling o rs out w made = faultless o (take (w .end) out) rs (read-back rs out w made)
 
 -- ---- the state fits
 
