@@ -1,9 +1,8 @@
 -- Rule sets, and what they mean for a call: which action the filter has to return. The rule sets, operators and widths are those of
 -- seccompiler 0.5.0; the words of architectures and actions are those of linux/audit.h and linux/seccomp.h.
 use Prim.Native.Nat.{ℕ, _+_, _/_, _%_, _^_}
-use mathlib.Core.Path.{_≡_}
 use mathlib.Core.Bool.{Bool, true, false, cond, not, _&&_, _||_}
-use mathlib.Core.List.{List, [], _∷_, _++_}
+use mathlib.Core.List.{List, [], _∷_}
 use lib.Dec.{eqb, leb, ltb}
 use lib.ListN.{getD}
 use lib.Bits.{bitAnd}
@@ -159,26 +158,3 @@ spanCount (e ∷ (f ∷ es)) = cond (together e f) 0 1 + spanCount (f ∷ es)
 unfoldable pub rulesOf : ℕ → List Entry → List Rule
 rulesOf n [] = []
 rulesOf n (e ∷ es) = cond (eqb n (e .number)) (e .rules) (rulesOf n es)
-
--- ---- what it is to let more calls match
-
-unfoldable pub isListed : ℕ → List Entry → Bool
-isListed n [] = false
-isListed n (e ∷ es) = eqb n (e .number) || isListed n es
-
--- `new` is `old` with a number listed that was not, or with a rule added to an entry that has rules
-pub data MoreEntries (old new : List Entry) : Type 0 where
-  listing : (before behind : List Entry) (e : Entry) → isListed (e .number) old ≡ false
-      → old ≡ before ++ behind → new ≡ before ++ (e ∷ behind) → MoreEntries old new
-  adding : (before behind : List Entry) (n : ℕ) (front back : List Rule) (r some : Rule) (others : List Rule)
-      → front ++ back ≡ some ∷ others
-      → old ≡ before ++ (record { number = n; rules = front ++ back } ∷ behind)
-      → new ≡ before ++ (record { number = n; rules = front ++ (r ∷ back) } ∷ behind)
-      → MoreEntries old new
-
-pub record Grown (old new : RuleSet) : Type 0 where
-  pub architecture : new .architecture ≡ old .architecture
-  pub nativeOnly : new .nativeOnly ≡ old .nativeOnly
-  pub mismatch : new .mismatch ≡ old .mismatch
-  pub onMatch : new .onMatch ≡ old .onMatch
-  pub entries : MoreEntries (old .entries) (new .entries)

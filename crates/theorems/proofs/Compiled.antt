@@ -1,5 +1,5 @@
 -- COMPILED: whoever leaves the buffer where it refuses, and else writes good instructions at its start, keeps the promises of `Behaves`;
--- of `Compiled`, if these are the emitted filter. And GROWS, of what two such compilations returned.
+-- of `Compiled`, if these are the emitted filter.
 use mathlib.Core.Path.{_≡_, ap, sym, _∙_}
 use mathlib.Core.Bool.{true}
 use mathlib.Core.List.{List, _++_}
@@ -19,11 +19,9 @@ use Rattle.definitions.specs.Emitted.{emitted}
 use Rattle.definitions.specs.Format.{read, InRange}
 use Rattle.definitions.specs.Answer.{indicesTaken, noFault, answer, emittedSize, answerOf}
 use Rattle.definitions.specs.Compiled.{FormOf, written, filterIn, Behaves, Compiled}
-use Rattle.theorems.specs.Statements.{GrowsBytes}
 use Rattle.theorems.proofs.Tests.{some-same}
 use Rattle.theorems.proofs.Bytes.{length-filter, bytes-right, bytes-taken, bytes-once}
 use Rattle.theorems.proofs.RoundTrip.{read-written, written-read}
-use Rattle.theorems.proofs.Grows.{grows}
 use Rattle.theorems.proofs.Answers.{Compiles, indices-taken}
 
 -- the rule set that bytes are the form of is the one that is read from them
@@ -78,10 +76,3 @@ done set before after r rs bytes a k p =
       behaves = behaves set before after r rs (emitted rs) (k .from) (k .said) p (bytes-right rs ranged indices)
           (bytes-taken rs ranged indices (omega (arith, k .short)));
     }
-
-returned : {a b : ℕ} → returns a ≡ returns b → a ≡ b
-returned h = cc
-
-pub grows-bytes : GrowsBytes
-grows-bytes old new old-set new-set old-before old-after new-before new-after r s f g p q z w more c h =
-    q .behaves .right w new g c ∙ ap returns (grows old new more c (returned (sym (p .behaves .right z old f c) ∙ h)))

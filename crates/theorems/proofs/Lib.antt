@@ -17,7 +17,6 @@ pub mod Names
 pub mod Forms
 pub mod Reading
 pub mod RoundTrip
-pub mod Grows
 pub mod Faults
 pub mod Answers
 pub mod Outputs
@@ -25,5 +24,4 @@ pub mod NeverOne
 pub mod Faultless
 pub mod Compiled
 pub mod Lengths
-pub mod Agree
 pub mod Named

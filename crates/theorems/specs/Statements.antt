@@ -8,16 +8,14 @@ use mathlib.Core.Option.{some}
 use lib.Dec.{leb, ltb}
 use lib.ListN.{length}
 use Rattle.definitions.specs.declared.Instruction.{Instruction}
-use Rattle.definitions.specs.declared.Answer.{Answer}
 use Rattle.definitions.specs.Word.{AreBytes}
 use Rattle.definitions.specs.Machine.{filterBytes, filterOf, Call, callOf, returns, start, run, runs, visits, steps, Climbs}
 use Rattle.definitions.specs.Kernel.{accepts, acceptsBytes}
-use Rattle.definitions.specs.RuleSet.{RuleSet, meaning, Grown}
+use Rattle.definitions.specs.RuleSet.{RuleSet, meaning}
 use Rattle.definitions.specs.Emitted.{emitted}
 use Rattle.definitions.specs.Format.{InRange, encode, read}
 use Rattle.definitions.specs.Answer.{tooMany, ascending, rulesFilled, indicesTaken, widthsFit}
-use Rattle.definitions.specs.Compiled.{FormOf, filterIn, Compiled}
-use Rattle.definitions.specs.Outcome.{outcomeOf, decidedOf}
+use Rattle.definitions.specs.Outcome.{outcomeOf}
 use Rattle.theorems.specs.Length.{filterLength}
 use Rattle.theorems.specs.Outputs.{Output, sizeIn, answerIn}
 
@@ -84,27 +82,6 @@ RoundTrip = (bs : List ℕ) → AreBytes bs → (rs : RuleSet) → (read bs ≡ 
 -- two different byte strings never are one rule set
 abbrev pub OneForm : Type 0
 OneForm = (a b : List ℕ) → AreBytes a → AreBytes b → (rs : RuleSet) → read a ≡ some rs → read b ≡ some rs → a ≡ b
-
--- with one more number listed, or one more rule in an entry that has rules, what matched still matches
-abbrev pub Grows : Type 0
-Grows = (old new : RuleSet) → Grown old new → (c : Call) → meaning old c ≡ old .onMatch → meaning new c ≡ new .onMatch
-
--- the same of bytes: of what two compilations returned and wrote, whatever stood in their buffers
-abbrev pub GrowsBytes : Type 0
-GrowsBytes =
-    (old new : RuleSet) (old-set new-set old-before old-after new-before new-after : List ℕ) (r s : Answer)
-    → FormOf old old-set → FormOf new new-set
-    → Compiled old-set old-before old-after r → Compiled new-set new-before new-after s → r .code ≡ 0 → s .code ≡ 0
-    → Grown old new → (c : Call)
-    → runs (filterOf (filterIn r old-after)) c ≡ returns (old .onMatch) → runs (filterOf (filterIn s new-after)) c ≡ returns (new .onMatch)
-
--- running what compiling wrote and asking the rule set itself give one action, for every call
-abbrev pub Agree : Type 0
-Agree =
-    (set before after : List ℕ) (r : Answer) → AreBytes set → Compiled set before after r → r .code ≡ 0
-    → (call : List ℕ) → length call ≡ 64
-    → (outcomeOf (filterIn r after) call .code ≡ 0) × (decidedOf set call .code ≡ 0)
-    × (outcomeOf (filterIn r after) call .action ≡ decidedOf set call .action)
 
 -- ---- of answers, in both forms of output
 

@@ -87,7 +87,7 @@ indexed : (holds (call 0 1 2 3) (compared Eq Qword 2 3 0) ≡ true) × (holds (c
 unfolding holds test
 indexed = (refl, refl)
 
--- ---- why `Grown` asks for an entry that has rules: a rule added to one without takes matches away
+-- ---- why theorem `grows` asks for a number that has rules: a rule added to one without takes matches away
 
 abbrev one : List Rule → RuleSet
 one rs = record { architecture = x86-64; nativeOnly = false; mismatch = errno 1; onMatch = allow; entries = record { number = 1; rules = rs } ∷ [] }

@@ -11,10 +11,8 @@ use Rattle.definitions.specs.RuleSet.{meaning}
 use Rattle.definitions.specs.Answer.{noFault}
 use Rattle.definitions.specs.Compiled.{filterIn}
 use Rattle.definitions.specs.Outcome.{outcomeOf, decided, decidedOf}
-use Rattle.theorems.proofs.RoundTrip.{read-written}
-use Rattle.theorems.specs.Outputs.{list}
-use Rattle.theorems.proofs.Outputs.{compiles-in}
-use Rattle.theorems.specs.Statements.{Agree}
+use Rattle.behaviour.specs.Statements.{Agree}
+use Rattle.behaviour.proofs.Outputs.{promised-behaves, known}
 
 abbrev code : Outcome → ℕ
 code o = o .code
@@ -30,12 +28,12 @@ decidedAction d = d .action
 
 pub agree : Agree
 unfolding outcomeOf decidedOf
-agree set before after r bytes p z call size =
-    let k = compiles-in list set (length before) r (p .answer) z in
-    let form = read-written set bytes (k .0) (k .1 .from) in
-    let right = p .behaves .right z (k .0) (record { ranged = form .0; spelled = form .1 }) (callOf call) in
+agree o set before after r bytes p z call size =
+    let k = known set before after r o bytes p z in
+    let b = promised-behaves set before after r o p in
+    let right = b .right z (k .rules) (k .form) (callOf call) in
     let ran : outcomeOf (filterIn r after) call
-    ≡ record { code = 0; action = meaning (k .0) (callOf call); steps = steps (filterOf (filterIn r after)) (callOf call) } =
-    rw (eq-eqb (length call) 64 size, p .behaves .taken z, right) in
-    let said : decidedOf set call ≡ decided noFault (meaning (k .0) (callOf call)) = rw (eq-eqb (length call) 64 size, k .1 .from, k .1 .nothing) in
+    ≡ record { code = 0; action = meaning (k .rules) (callOf call); steps = steps (filterOf (filterIn r after)) (callOf call) } =
+    rw (eq-eqb (length call) 64 size, b .taken z, right) in
+    let said : decidedOf set call ≡ decided noFault (meaning (k .rules) (callOf call)) = rw (eq-eqb (length call) 64 size, k .from, k .nothing) in
     (ap code ran, ap decidedCode said, ap action ran ∙ sym (ap decidedAction said))

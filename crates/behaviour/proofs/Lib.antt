@@ -1,0 +1,12 @@
+pub mod Outputs
+pub mod Changes
+pub mod Fixed
+pub mod Alike
+pub mod SearchToo
+pub mod Agree
+pub mod OnlyThree
+pub mod Blind
+pub mod Grows
+pub mod Stricter
+pub mod Frame
+pub mod Order

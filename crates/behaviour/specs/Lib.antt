@@ -1,0 +1,4 @@
+pub mod Filters
+pub mod Changes
+pub mod Seen
+pub mod Statements
