@@ -95,7 +95,8 @@ pub(crate) struct Compared {
 }
 
 extern "C" {
-    fn callfilter_abi_1() -> u32;
+    #[link_name = "callfilter_abi_1"]
+    fn callfilter_abi() -> u32;
     fn callfilter_compile(set: *const u8, set_len: usize, out: *mut u8, out_len: usize) -> Answer;
     fn callfilter_compile_search(set: *const u8, set_len: usize, out: *mut u8, out_len: usize) -> Answer;
     fn callfilter_start(out: *mut u8, out_len: usize, architecture: u32, mismatch: u32, on_match: u32) -> Writer;
@@ -128,7 +129,7 @@ const _: () = assert!(std::mem::size_of::<sock_filter>() == 8);
 /// program with this crate in it links with an archive whose structs or signatures are others.
 pub(crate) fn version() -> u32 {
     // SAFETY: nothing is handed over
-    unsafe { callfilter_abi_1() }
+    unsafe { callfilter_abi() }
 }
 
 pub(crate) fn compile(set: &[u8], out: &mut [sock_filter]) -> Answer {
