@@ -5,7 +5,7 @@ use std::iter::from_fn;
 use crate::architecture::NATIVE_ONLY;
 use crate::boundary::{self, Answer, Compared, Cursor, Decision};
 use crate::filter::LONGEST;
-use crate::{sock_filter, Action, Architecture, Condition, Error, Filter, Operator, Place, Rule, RuleSet, Width};
+use crate::{sock_filter, Action, Architecture, Condition, Error, Operator, Place, Rule, RuleSet, Width};
 
 /// The rule set that bytes stand for.
 pub(crate) fn set_of(bytes: &[u8]) -> Result<RuleSet, Error> {
