@@ -24,8 +24,8 @@ use definitions::Head;
 use definitions::Listed;
 use definitions::Outcome;
 use definitions::Writer;
-use judge::fault;
-use judge::note;
+use faults::fault;
+use faults::note;
 
 // A filter of so many instructions is too long.
 const TOO_MANY: usize = 4097;

@@ -204,7 +204,7 @@ pub fn decide(set: &[u8], call: &[u8]) -> Decision
     ensures { λ r. ⌜ r ≡ outcomes.decidedOf (now (set .entry)) (now (call .entry)) ⌝ }
 {
     if call.len() != 64 {
-        return decided(judge::fault(9, NOWHERE, NOWHERE, NOWHERE), 0);
+        return decided(faults::fault(9, NOWHERE, NOWHERE, NOWHERE), 0);
     }
     let found = judge::judge(set).fault;
     if found.code != 0 {

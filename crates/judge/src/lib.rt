@@ -2,7 +2,7 @@
 // their filter has, and with how many entries it is short enough. Nothing in the bytes is trusted: whatever a count says, the walk ends
 // where the bytes do.
 ghost use mathlib.Core.Path.{_≡_};
-ghost use mathlib.Core.Bool.{true, cond, not, _&&_, _||_};
+ghost use mathlib.Core.Bool.{true, cond, not};
 ghost use mathlib.Core.Option.{none};
 ghost use Prim.Native.Nat.{_+_, _-_, _≤_, _<_};
 ghost use lib.Dec.{eqb, ltb};
@@ -10,12 +10,13 @@ ghost use lib.ListN.{length};
 ghost use Rattle.definitions.specs.Word.{numberAt};
 ghost use Rattle.definitions.specs.Format.{times, conditionAt, ruleAt, read};
 ghost use Rattle.definitions.specs.Answer as answers;
-ghost use Rattle.definitions.specs.Answer.{fitsWidth, unless, conditionFaults, countFaults, leastOf};
 ghost use Rattle.set_view.specs.Parts.{mostBytes};
 ghost use Rattle.judge.specs.Walk.{sum, total, tells, told, tellCondition, tellRule, conditionsStart, notThere, Scanned, plainThere, runFits, entriesTold, noTurn, Turned, turnOf, judged};
-use definitions::Condition;
 use definitions::Fault;
-use definitions::Width;
+use faults::condition_fault;
+use faults::count_fault;
+use faults::fault;
+use faults::note;
 use set_view::condition_here;
 
 // How many bytes a set has at most, and its head, an entry, a rule and a condition without the parts in them.
@@ -38,52 +39,6 @@ const PLAIN_LENGTH: usize = 5;
 // What stands for a number that does not apply.
 const NOWHERE: u32 = 0xffffffff;
 
-pub fn fault(code: u32, entry: u32, rule: u32, condition: u32) -> Fault
-    ensures { λ r. ⌜ r ≡ answers.fault code entry rule condition ⌝ }
-{
-    Fault {
-        code: code,
-        entry: entry,
-        rule: rule,
-        condition: condition,
-    }
-}
-
-// Whether a further fault is told instead of the one that was found.
-fn takes(found: u32, more: u32) -> bool
-    ensures { λ r. ⌜ r ≡ (eqb found 0 || ltb more found) ⌝ }
-{
-    if found == 0 {
-        return true;
-    }
-    more < found
-}
-
-fn either(first: bool, a: u32, b: u32) -> u32
-    ensures { λ r. ⌜ r ≡ cond first a b ⌝ }
-{
-    if first {
-        return a;
-    }
-    b
-}
-
-// What was found so far, and what a test finds that should hold. Number by number, so that none of them has to stand in memory.
-pub fn note(found: Fault, holds: bool, more: Fault) -> Fault
-    ensures { λ r. ⌜ r ≡ leastOf found (unless holds more) ⌝ }
-{
-    if holds {
-        return found;
-    }
-    let taken = takes(found.code, more.code);
-    fault(
-        either(taken, more.code, found.code),
-        either(taken, more.entry, found.entry),
-        either(taken, more.rule, found.rule),
-        either(taken, more.condition, found.condition),
-    )
-}
-
 // What a walk over a part found, with what was found before it: whether it is of the format, the place behind it, how many instructions
 // there are, and the least fault.
 pub struct Scan {
@@ -102,37 +57,6 @@ fn not_there() -> Scan
         count: 0,
         fault: fault(0, NOWHERE, NOWHERE, NOWHERE),
     }
-}
-
-fn both(a: bool, b: bool) -> bool
-    ensures { λ r. ⌜ r ≡ (a && b) ⌝ }
-{
-    if a {
-        return b;
-    }
-    false
-}
-
-// Whether a condition's value and mask have no more bits than it looks at.
-fn fits_width(q: Condition) -> bool
-    ensures { λ r. ⌜ r ≡ fitsWidth q ⌝ }
-{
-    let width = q.width;
-    match width {
-        Width::Dword => both(q.value <= 4294967295, q.mask <= 4294967295),
-        Width::Qword => true,
-    }
-}
-
-// What is wrong with a condition: its number and place, noted behind what was found so far.
-fn condition_fault(found: Fault, q: Condition, entry: u32, rule: u32, condition: u32) -> Fault
-    ensures { λ r. ⌜ r ≡ leastOf found (conditionFaults entry rule condition q) ⌝ }
-{
-    if both(q.index <= 5, fits_width(q)) {
-        return found;
-    }
-    let index = note(found, q.index <= 5, fault(5, entry, rule, condition));
-    note(index, fits_width(q), fault(8, entry, rule, condition))
 }
 
 // n conditions of a rule.
@@ -171,13 +95,6 @@ fn scan_conditions(
         count: count,
         fault: fault,
     }
-}
-
-// The same of a rule with n conditions.
-fn count_fault(found: Fault, n: u32, entry: u32, rule: u32) -> Fault
-    ensures { λ r. ⌜ r ≡ leastOf found (countFaults entry rule n) ⌝ }
-{
-    note(found, n != 0, fault(4, entry, rule, NOWHERE))
 }
 
 fn scan_rule(s: &[u8], at: usize, entry: u32, rule: u32, before: usize, found: Fault) -> Scan

@@ -1,7 +1,7 @@
 -- `takes` meets its contract: the two tests of `lesser`.
 use borrow.Author.Tests.{eq-eqb, ne-eqb}
-use Rattle.judge.proofs.takes.Statement.{statement}
-use Rattle.judge.proofs.takes.Tie as tie
+use Rattle.faults.proofs.takes.Statement.{statement}
+use Rattle.faults.proofs.takes.Tie as tie
 
 returns : tie.Need-returns
 returns c = rw (eq-eqb _ _ (c .if1 .taken))

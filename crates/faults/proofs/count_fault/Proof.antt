@@ -1,8 +1,8 @@
 -- `count_fault` meets its contract: one test after the other, in the order of `countFaults`.
 use borrow.Author.Needs.{needs}
 use Rattle.definitions.specs.Answer.{countFaults}
-use Rattle.judge.proofs.count_fault.Statement.{statement}
-use Rattle.judge.proofs.count_fault.Tie as tie
+use Rattle.faults.proofs.count_fault.Statement.{statement}
+use Rattle.faults.proofs.count_fault.Tie as tie
 
 fault-requires : tie.Need-fault-requires
 fault-requires c κs = search needs

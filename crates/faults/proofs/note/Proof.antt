@@ -5,8 +5,8 @@ use borrow.Author.Needs.{needs}
 use Rattle.definitions.specs.declared.Fault.{Fault}
 use Rattle.definitions.specs.Answer.{fault, lesser}
 use Rattle.theorems.proofs.Faults.{least-unless}
-use Rattle.judge.proofs.note.Statement.{statement}
-use Rattle.judge.proofs.note.Tie as tie
+use Rattle.faults.proofs.note.Statement.{statement}
+use Rattle.faults.proofs.note.Tie as tie
 
 by-numbers : (first : Bool) (a b : Fault)
     → cond first a b ≡ fault (cond first (a .code) (b .code)) (cond first (a .entry) (b .entry)) (cond first (a .rule) (b .rule)) (cond first (a .condition) (b .condition))

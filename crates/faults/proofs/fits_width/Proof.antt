@@ -1,7 +1,7 @@
 -- `fits_width` meets its contract: one width after the other.
 use borrow.Author.Needs.{needs}
-use Rattle.judge.proofs.fits_width.Statement.{statement}
-use Rattle.judge.proofs.fits_width.Tie as tie
+use Rattle.faults.proofs.fits_width.Statement.{statement}
+use Rattle.faults.proofs.fits_width.Tie as tie
 
 enum-told : tie.Need-enum-told
 enum-told c = search needs

@@ -5,8 +5,8 @@ use lib.Dec.{leb}
 use Rattle.definitions.specs.Answer.{conditionFaults, unless, leastOf}
 use Rattle.theorems.proofs.Tests.{both-true}
 use Rattle.theorems.proofs.Faults.{least-append}
-use Rattle.judge.proofs.condition_fault.Statement.{statement}
-use Rattle.judge.proofs.condition_fault.Tie as tie
+use Rattle.faults.proofs.condition_fault.Statement.{statement}
+use Rattle.faults.proofs.condition_fault.Tie as tie
 
 fits-width-requires : tie.Need-fits-width-requires
 fits-width-requires c κs = search needs
