@@ -13,7 +13,7 @@ use native.Mathlib.Nat.{add-zero, zero-add}
 use borrow.Author.Tests.{eq-eqb, eqb-true, not-true, leb-true, leb-false, le-leb, lt-ltb}
 use Rattle.definitions.specs.declared.Condition.{Condition}
 use Rattle.definitions.specs.declared.Fault.{Fault}
-use Rattle.definitions.specs.RuleSet.{Rule, Entry, RuleSet, withEntries, guarded, meaning, oneOf}
+use Rattle.definitions.specs.RuleSet.{Rule, Entry, RuleSet, withEntries, guarded, oneOf}
 use Rattle.definitions.specs.Emitted.{emitted}
 use Rattle.definitions.specs.Format.{joined, encodeEntry, encode, InRange, read}
 use Rattle.definitions.specs.Answer as answers
@@ -319,12 +319,12 @@ unfolding filterFaults unless leastOf
 no-filter rs = refl
 
 decided-in : (rs : RuleSet) (c : Call) → undecidedBy (decidedRead (some rs) c) ≡ least rs 0 0 0
-decided-in rs c = rw (no-filter rs) (go (eqb (refusal rs .code) 0) refl)
+decided-in rs c = rw (no-filter rs) (go _ (eqb (refusal rs .code) 0) refl)
   where
-    go : (t : Bool) → eqb (refusal rs .code) 0 ≡ t
-        → undecidedBy (cond t (decided noFault (meaning rs c)) (decided (refusal rs) 0)) ≡ refusal rs
-    go true e = sym (none-refused rs (eqb-true (refusal rs .code) 0 e))
-    go false e = refl
+    -- whatever is decided
+    go : (action : ℕ) (t : Bool) → eqb (refusal rs .code) 0 ≡ t → undecidedBy (cond t (decided noFault action) (decided (refusal rs) 0)) ≡ refusal rs
+    go action true e = sym (none-refused rs (eqb-true (refusal rs .code) 0 e))
+    go action false e = refl
 
 pub decided-named : DecidedNamed
 unfolding decidedOf
