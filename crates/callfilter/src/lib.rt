@@ -24,14 +24,12 @@ use definitions::Head;
 use definitions::Listed;
 use definitions::Outcome;
 use definitions::Writer;
+use faults::NOWHERE;
 use faults::fault;
 use faults::note;
 
 // A filter of so many instructions is too long.
 const TOO_MANY: usize = 4097;
-
-// What stands for a number that does not apply.
-const NOWHERE: u32 = 0xffffffff;
 
 // The version, as major, minor and patch, a byte each. The name has the number of the binary interface, which is raised whenever a struct,
 // a signature or what a number means changes: the header and the crate ask for it by name, so that neither links with an archive that it

@@ -15,6 +15,8 @@ use definitions::Decision;
 use definitions::Fault;
 use definitions::Operator;
 use definitions::Width;
+use faults::NOWHERE;
+use faults::fault;
 use set_view::condition_here;
 
 const KILL_PROCESS: u32 = 0x80000000;
@@ -23,9 +25,6 @@ const KILL_PROCESS: u32 = 0x80000000;
 const SECOND_TABLE: u32 = 0x40000000;
 
 const CANCELLED: u32 = 0xffffffff;
-
-// What stands for a number that does not apply.
-const NOWHERE: u32 = 0xffffffff;
 
 // What of a number is looked at.
 fn cut(width: Width, x: u64) -> u64
@@ -204,7 +203,7 @@ pub fn decide(set: &[u8], call: &[u8]) -> Decision
     ensures { λ r. ⌜ r ≡ outcomes.decidedOf (now (set .entry)) (now (call .entry)) ⌝ }
 {
     if call.len() != 64 {
-        return decided(faults::fault(9, NOWHERE, NOWHERE, NOWHERE), 0);
+        return decided(fault(9, NOWHERE, NOWHERE, NOWHERE), 0);
     }
     let found = judge::judge(set).fault;
     if found.code != 0 {

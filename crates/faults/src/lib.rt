@@ -10,7 +10,7 @@ use definitions::Fault;
 use definitions::Width;
 
 // What stands for a number that does not apply.
-const NOWHERE: u32 = 0xffffffff;
+pub const NOWHERE: u32 = 0xffffffff;
 
 pub fn fault(code: u32, entry: u32, rule: u32, condition: u32) -> Fault
     ensures { λ r. ⌜ r ≡ answers.fault code entry rule condition ⌝ }
@@ -33,7 +33,7 @@ fn takes(found: u32, more: u32) -> bool
     more < found
 }
 
-fn either(first: bool, a: u32, b: u32) -> u32
+fn chosen(first: bool, a: u32, b: u32) -> u32
     ensures { λ r. ⌜ r ≡ cond first a b ⌝ }
 {
     if first {
@@ -51,10 +51,10 @@ pub fn note(found: Fault, holds: bool, more: Fault) -> Fault
     }
     let taken = takes(found.code, more.code);
     fault(
-        either(taken, more.code, found.code),
-        either(taken, more.entry, found.entry),
-        either(taken, more.rule, found.rule),
-        either(taken, more.condition, found.condition),
+        chosen(taken, more.code, found.code),
+        chosen(taken, more.entry, found.entry),
+        chosen(taken, more.rule, found.rule),
+        chosen(taken, more.condition, found.condition),
     )
 }
 

@@ -13,6 +13,7 @@ ghost use Rattle.definitions.specs.Answer as answers;
 ghost use Rattle.set_view.specs.Parts.{mostBytes};
 ghost use Rattle.judge.specs.Walk.{sum, total, tells, told, tellCondition, tellRule, conditionsStart, notThere, Scanned, plainThere, runFits, entriesTold, noTurn, Turned, turnOf, judged};
 use definitions::Fault;
+use faults::NOWHERE;
 use faults::condition_fault;
 use faults::count_fault;
 use faults::fault;
@@ -35,9 +36,6 @@ const TOO_MANY: usize = 4097;
 
 // How many instructions an entry without rules has.
 const PLAIN_LENGTH: usize = 5;
-
-// What stands for a number that does not apply.
-const NOWHERE: u32 = 0xffffffff;
 
 // What a walk over a part found, with what was found before it: whether it is of the format, the place behind it, how many instructions
 // there are, and the least fault.

@@ -19,24 +19,24 @@ returns c = rw (least-unless, c .if1 .taken)
 takes-requires : tie.Need-takes-requires
 takes-requires c κs = search needs
 
-either-requires : tie.Need-either-requires
-either-requires c κs = search needs
+chosen-requires : tie.Need-chosen-requires
+chosen-requires c κs = search needs
 
-either-requires-2 : tie.Need-either-requires-2
-either-requires-2 c κs = search needs
+chosen-requires-2 : tie.Need-chosen-requires-2
+chosen-requires-2 c κs = search needs
 
-either-requires-3 : tie.Need-either-requires-3
-either-requires-3 c κs = search needs
+chosen-requires-3 : tie.Need-chosen-requires-3
+chosen-requires-3 c κs = search needs
 
-either-requires-4 : tie.Need-either-requires-4
-either-requires-4 c κs = search needs
+chosen-requires-4 : tie.Need-chosen-requires-4
+chosen-requires-4 c κs = search needs
 
 fault-requires : tie.Need-fault-requires
 fault-requires c κs = search needs
 
 returns-2 : tie.Need-returns-2
 unfolding lesser
-returns-2 c = rw (c .fault .ensures, c .before .either4 .ensures, c .before .before .either3 .ensures, c .before .before .before .either2 .ensures, c .before .before .before .before .either .ensures, c .before .before .before .before .before .takes .ensures, least-unless, c .before .before .before .before .before .before .if1 .left, by-numbers)
+returns-2 c = rw (c .fault .ensures, c .before .chosen4 .ensures, c .before .before .chosen3 .ensures, c .before .before .before .chosen2 .ensures, c .before .before .before .before .chosen .ensures, c .before .before .before .before .before .takes .ensures, least-unless, c .before .before .before .before .before .before .if1 .left, by-numbers)
 
 pub note-spec : {M : Type 1} → statement M
 note-spec =
@@ -44,9 +44,9 @@ note-spec =
     (tie.spec
     returns
     takes-requires
-    either-requires
-    either-requires-2
-    either-requires-3
-    either-requires-4
+    chosen-requires
+    chosen-requires-2
+    chosen-requires-3
+    chosen-requires-4
     fault-requires
     returns-2)
