@@ -1,7 +1,7 @@
 -- Laws that join what is said of a set with the answer's definition, and an answer of 0 with what may be written.
 use mathlib.Core.Path.{_≡_, refl, ap, sym, _∙_}
 use mathlib.Core.Bool.{Bool, true, false}
-use mathlib.Core.List.{List, [], _++_}
+use mathlib.Core.List.{List, _++_}
 use mathlib.Core.Option.{Option, none, some}
 use Prim.Native.Nat.{ℕ, _*_, _≤_}
 use native.Mathlib.Nat.{zero-add}

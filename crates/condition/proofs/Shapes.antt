@@ -1,11 +1,10 @@
 -- Laws of a condition's instructions: what is emitted for an operator is what its shape says, and how long that is.
-use mathlib.Core.Path.{_≡_, refl, ap, sym, _∙_}
+use mathlib.Core.Path.{_≡_, refl, ap}
 use mathlib.Core.Bool.{Bool, true, false, cond, not}
 use mathlib.Core.List.{List, [], _∷_, _++_}
 use Prim.Native.Nat.{ℕ, _+_, _*_, _≤_}
-use native.Mathlib.Nat.{add-zero}
 use native.Mathlib.Omega.{arith}
-use lib.ListN.{length, length-append}
+use lib.ListN.{length}
 use Rattle.definitions.specs.declared.Operator.{Operator}
 use Rattle.definitions.specs.declared.Operator.the-variants.{Eq, Ge, Gt, Le, Lt, MaskedEq, Ne}
 use Rattle.definitions.specs.declared.Width.{Width}

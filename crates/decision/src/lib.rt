@@ -2,9 +2,8 @@
 // the walk over its entries may trust every count in it.
 ghost use mathlib.Core.Path.{_≡_};
 ghost use mathlib.Core.Bool.{_&&_};
-ghost use Prim.Native.Nat.{_+_, _*_, _≤_};
+ghost use Prim.Native.Nat.{_+_, _*_};
 ghost use lib.ListN.{length};
-ghost use Rattle.definitions.specs.Word.{numberAt};
 ghost use Rattle.definitions.specs.Machine.{callOf};
 ghost use Rattle.definitions.specs.RuleSet as defined;
 ghost use Rattle.definitions.specs.Outcome as outcomes;

@@ -1,21 +1,18 @@
 -- Laws of the head: what is put is the head, by whether there is a guard and whether something is listed; and what the first number of a
 -- set says of it.
 use mathlib.Core.Path.{_≡_, refl}
-use mathlib.Core.Bool.{Bool, true, false, cond}
+use mathlib.Core.Bool.{Bool, true, false}
 use mathlib.Core.List.{List, [], _∷_, _++_}
 use mathlib.Core.Option.{none, some}
 use Prim.Native.Nat.{ℕ, zero, suc, _≤_}
 use native.Mathlib.Omega.{arith}
-use lib.Dec.{eqb}
 use lib.ListN.{length}
 use Rattle.definitions.specs.declared.Instruction.{Instruction}
 use Rattle.definitions.specs.Machine.{instructionBytes, filterBytes}
-use Rattle.definitions.specs.RuleSet.{Architecture, x86-64, aarch64, riscv64, architectureWord, killProcess}
-use Rattle.definitions.specs.Format.{unflagged, architectureOf}
+use Rattle.definitions.specs.RuleSet.{Architecture, architectureWord, killProcess}
 use Rattle.definitions.specs.Emitted.{load, ifEqual, return, guard, numberCode, headCode}
 use Rattle.bpf.specs.Place.{place}
 use Rattle.bpf.proofs.Buffer.{put-first, puts-append}
-use Rattle.set_view.specs.Names.{namedArchitecture}
 
 -- the test of the architecture
 abbrev pub tested : Architecture → List Instruction

@@ -2,14 +2,13 @@
 // both forms of output.
 ghost use mathlib.Core.Path.{_≡_};
 ghost use mathlib.Core.List.{[], _∷_};
-ghost use Prim.Native.Nat.{_+_, _*_, _≤_};
+ghost use Prim.Native.Nat.{_*_, _≤_};
 ghost use lib.ListN.{length};
 ghost use Rattle.definitions.specs.Machine.{filterBytes};
-ghost use Rattle.definitions.specs.RuleSet.{architectureWord, killProcess, inSecondTable};
+ghost use Rattle.definitions.specs.RuleSet.{architectureWord, killProcess};
 ghost use Rattle.definitions.specs.Emitted as emitted;
 ghost use Rattle.definitions.specs.Emitted.{guard, headCode};
 ghost use Rattle.definitions.specs.Format as format;
-ghost use Rattle.definitions.specs.Format.{architectureOf, isThere};
 ghost use Rattle.bpf.specs.Place.{place};
 ghost use Rattle.set_view.specs.Names.{guardsBy, namedArchitecture};
 use bpf::give;

@@ -1,18 +1,15 @@
 -- What the sums over a whole set are: the length of its filter, its faults, and the entries with which it is short enough.
-use mathlib.Core.Path.{_≡_, refl, ap, sym, _∙_}
-use mathlib.Core.Bool.{Bool, true, false, cond, not, _&&_}
+use mathlib.Core.Path.{_≡_, refl, sym, _∙_}
+use mathlib.Core.Bool.{Bool, true, false, cond, _&&_}
 use mathlib.Core.List.{List, [], _∷_, _++_}
 use Prim.Native.Nat.{ℕ, zero, suc, _+_, _≤_}
 use native.Mathlib.Nat.{add-zero, add-assoc}
 use native.Mathlib.Omega.{arith}
 use lib.Dec.{eqb, leb, ltb, eqb·suc-zero}
 use lib.ListN.{length}
-use borrow.Author.Tests.{le-ltb, ltb-false, ne-eqb}
-use Rattle.definitions.specs.declared.Condition.{Condition}
-use Rattle.definitions.specs.declared.Fault.{Fault}
+use borrow.Author.Tests.{le-ltb, ltb-false}
 use Rattle.definitions.specs.RuleSet.{Rule, Entry, RuleSet, withEntries, noRules, hasSecondTable, guarded}
-use Rattle.definitions.specs.Emitted.{stepCode, stepDistance}
-use Rattle.definitions.specs.Answer.{fault, nowhere, unless, faultsOf, conditionFaults, countFaults, ruleFaults, entriesFaults, tooMany, firstWith, shortWith, emittedSize, tooLong, leastOf}
+use Rattle.definitions.specs.Answer.{fault, nowhere, unless, faultsOf, conditionFaults, countFaults, ruleFaults, entriesFaults, tooMany, firstWith, shortWith, emittedSize, leastOf}
 use Rattle.theorems.specs.Length.{conditionsLength, ruleLength, bodyLength, entryLength, headLength, filterLength}
 use Rattle.theorems.specs.Length as lengths
 use Rattle.theorems.proofs.Lengths.{length-step, length-emitted}

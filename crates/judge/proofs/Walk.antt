@@ -2,34 +2,26 @@
 -- what the sums over a whole set are.
 use mathlib.Core.Path.{_≡_, refl, ap, sym, _∙_}
 use mathlib.Core.Bool.{Bool, true, false, cond, not, _&&_}
-use mathlib.Core.List.{List, [], _∷_, _++_}
+use mathlib.Core.List.{List, [], _∷_}
 use mathlib.Core.Option.{Option, none, some}
 use Prim.Native.Nat.{ℕ, zero, suc, _+_, _-_, _*_, _/_, _≤_, _<_}
-use native.Mathlib.Nat.{add-zero, add-assoc}
 use native.Mathlib.Omega.{arith}
 use lib.Dec.{eqb, leb, ltb}
 use lib.ListN.{length}
 use borrow.Author.Tests.{leb-true, leb-false, ltb-true, ltb-false, eqb-true, le-leb, lt-leb, eq-eqb, ne-eqb, le-ltb}
-use Rattle.definitions.specs.declared.Condition.{Condition}
 use Rattle.definitions.specs.declared.Fault.{Fault}
 use Rattle.definitions.specs.Word.{numberAt}
-use Rattle.definitions.specs.RuleSet.{Architecture, hasSecondTable, Rule, Entry, RuleSet, withEntries, noRules, guarded, isAction}
-use Rattle.definitions.specs.Emitted.{stepCode, stepDistance}
-use Rattle.definitions.specs.Format.{isThere, Read, then, check, times, nativeOf, architectureOf, conditionAt, ruleAt, entryAt, read}
-use Rattle.definitions.specs.Answer.{fault, nowhere, placeless, noFault, unless, faultsOf, conditionFaults, countFaults, ruleFaults, entriesFaults, setFaults, tooMany, firstWith, shortWith, tooLong, leastOf, refusal}
-use Rattle.theorems.specs.Length.{conditionsLength, ruleLength, bodyLength, entryLength, headLength, filterLength}
+use Rattle.definitions.specs.RuleSet.{Rule, Entry, noRules}
+use Rattle.definitions.specs.Format.{Read, then, times, conditionAt, ruleAt, entryAt, read}
+use Rattle.definitions.specs.Answer.{fault, nowhere, unless, countFaults, tooMany, leastOf}
 use Rattle.theorems.specs.Length as lengths
-use Rattle.theorems.proofs.Lengths.{length-step, length-emitted}
-use Rattle.theorems.proofs.Tests.{then-some, some-same, both-true}
-use Rattle.theorems.proofs.Faults.{least-append}
-use Rattle.set_view.specs.Names.{namedArchitecture, guardsBy}
-use Rattle.set_view.specs.Parts.{headTaken, mostBytes, parts, conditionHere, conditionsHere, rulesHere}
+use Rattle.theorems.proofs.Tests.{both-true}
+use Rattle.set_view.specs.Parts.{parts, conditionHere, rulesHere}
 use Rattle.set_view.proofs.Walk.{parts-many}
-use Rattle.set_view.proofs.Agree.{architecture-agrees, conditions-agree, rules-agree}
+use Rattle.set_view.proofs.Agree.{conditions-agree, rules-agree}
 use Rattle.judge.specs.declared.Scan.{Scan}
 use Rattle.judge.specs.declared.Turn.{Turn}
-use Rattle.judge.specs.declared.Judged.{Judged}
-use Rattle.judge.specs.Walk.{Sum, sum, total, tells, told, tellCondition, conditionsStart, tellRule, tellEntry, notThere, scanOf, Scanned, plainThere, runFits, entriesTold, turnSum, Turned, noTurn, turnOf, judged}
+use Rattle.judge.specs.Walk.{Sum, sum, total, tells, told, tellCondition, conditionsStart, tellRule, tellEntry, notThere, scanOf, Scanned, plainThere, runFits, entriesTold, turnSum, Turned, noTurn}
 
 -- ---- a loop over parts, whatever they are
 

@@ -13,17 +13,17 @@ use Rattle.definitions.specs.declared.Fault.{Fault}
 use Rattle.definitions.specs.Word.{numberAt}
 use Rattle.definitions.specs.RuleSet.{Architecture, Entry, RuleSet, guarded, isAction}
 use Rattle.definitions.specs.Format.{isThere, Read, then, check, times, nativeOf, architectureOf, entryAt, read}
-use Rattle.definitions.specs.Answer.{placeless, noFault, unless, entriesFaults, setFaults, tooLong, leastOf, refusal}
-use Rattle.theorems.specs.Length.{entryLength, headLength, filterLength}
+use Rattle.definitions.specs.Answer.{placeless, noFault, unless, entriesFaults, setFaults, leastOf}
+use Rattle.theorems.specs.Length.{headLength, filterLength}
 use Rattle.theorems.specs.Length as lengths
 use Rattle.theorems.proofs.Faults.{least-append}
 use Rattle.set_view.specs.Names.{namedArchitecture, guardsBy}
-use Rattle.set_view.specs.Parts.{headTaken, mostBytes, entryHere, entryPast, entriesHere}
+use Rattle.set_view.specs.Parts.{headTaken, mostBytes, entryHere, entryPast}
 use Rattle.set_view.proofs.Walk.{parts-many}
 use Rattle.set_view.proofs.Agree.{architecture-agrees, entries-agree}
 use Rattle.judge.specs.declared.Turn.{Turn}
 use Rattle.judge.specs.declared.Judged.{Judged}
-use Rattle.judge.specs.Walk.{Sum, sum, tells, told, tellEntry, entriesTold, noTurn, turnOf, judged}
+use Rattle.judge.specs.Walk.{Sum, sum, tells, told, tellEntry, entriesTold, turnOf, judged}
 use Rattle.judge.proofs.Totals.{entries-count, entries-fault, fitting, entries-fit, around, fits-by}
 
 -- ---- the reader, test by test

@@ -1,11 +1,10 @@
 -- A form by example: an ioctl with eight rules, of which one is not alike, and a getsockopt with two qwords each.
 use mathlib.Core.Path.{_≡_, refl}
-use mathlib.Core.Bool.{true, false}
-use mathlib.Core.List.{List, [], _∷_}
-use Prim.Native.Nat.{ℕ}
+use mathlib.Core.Bool.{false}
+use mathlib.Core.List.{[], _∷_}
 use Rattle.definitions.specs.declared.Operator.the-variants.{Eq, MaskedEq}
 use Rattle.definitions.specs.declared.Width.the-variants.{Dword, Qword}
-use Rattle.definitions.specs.RuleSet.{x86-64, architectureWord, hasSecondTable, Entry, RuleSet, guarded}
+use Rattle.definitions.specs.RuleSet.{x86-64, architectureWord, hasSecondTable, RuleSet, guarded}
 use Rattle.definitions.specs.Emitted.{load, maskBy, ifEqual, ifGreater, ifAtLeast, return, highTests, lowTests, highPart, lowPart, conditionCode, helpers, near, stepCode, stepDistance, conditionsCode, numberCode, headCode, ruleBody}
 use Rattle.definitions.proofs.Examples.RuleSet.{compared}
 use Rattle.definitions.specs.SearchForm.{plainSpans, endsBy, upTo, link, chain, singles, few, lowest, blockIf, grow, away, nearPlace, nearReturn, plantLeaf, openBlock, comparing, compareFirst, plant}

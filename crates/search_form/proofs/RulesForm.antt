@@ -1,13 +1,12 @@
 -- RIGHT and QUICK of the form that searches rules too: for every call it returns the action that its rule set means, after as many
 -- instructions as halving takes for the number, and for each word of the rules that are searched.
-use mathlib.Core.Path.{_≡_, refl, ap, _∙_, sym}
+use mathlib.Core.Path.{_≡_, refl, ap, _∙_}
 use mathlib.Core.Bool.{Bool, true, false, cond}
 use mathlib.Core.List.{List, [], _∷_}
-use Prim.Native.Nat.{ℕ, zero, suc, _+_, _-_, _^_, _≤_, max}
+use Prim.Native.Nat.{ℕ, suc, _+_, _-_, _^_, _≤_, max}
 use native.Mathlib.Omega.{arith}
 use lib.Dec.{eqb, leb}
 use lib.ListN.{length}
-use Rattle.definitions.specs.declared.Instruction.{Instruction}
 use Rattle.definitions.specs.Machine.{Call, State, Result, returns, run, steps, setA, start}
 use Rattle.definitions.specs.RuleSet.{Rule, Entry, RuleSet, matches, listed, rulesOf, together, spanCount, noRules}
 use Rattle.definitions.specs.Compiled.{guardSteps}
@@ -18,18 +17,17 @@ use Rattle.theorems.proofs.Steps.{run-return}
 use Rattle.theorems.proofs.Heads.{headed-right}
 use Rattle.theorems.proofs.Right.{EntryTaken, each-index}
 use Rattle.theorems.proofs.Rules.{IndexTaken}
-use Rattle.definitions.specs.SearchForm.{Span, entrySpans, plainSpans, Form}
+use Rattle.definitions.specs.SearchForm.{entrySpans, plainSpans, Form}
 use Rattle.search_form.specs.Counts.{searchMost}
 use Rattle.search_form.specs.Rules.{Laid, layEntry, lay, oneByOne, ruled, rulesMost, shorterOf, entryForm, bottom, rulesPlanted, rulesForm}
 use Rattle.search_form.specs.Statements.{RulesRight}
 use Rattle.search_form.proofs.Cases.{cond-case}
 use Rattle.search_form.proofs.Spans.{Rising, rising, Begins, entry-begins, entry-count}
-use Rattle.search_form.proofs.Sizes.{Rooted}
 use Rattle.search_form.proofs.Steps.{count, count-return, head-count}
-use Rattle.search_form.proofs.Found.{treeMost, Ends, ends-more, ends-first}
+use Rattle.search_form.proofs.Found.{treeMost, ends-more, ends-first}
 use Rattle.search_form.proofs.Right.{Answers, below-power}
 use Rattle.search_form.proofs.RuleCases.{hits}
-use Rattle.search_form.proofs.RulesRight.{AnyReady, Puts, given, Putting, linearMost, linear-puts, foundMost, Grows, lay-some, lay-right, grown-right, ruledMost, ruled-puts}
+use Rattle.search_form.proofs.RulesRight.{AnyReady, Puts, given, Putting, linearMost, linear-puts, foundMost, lay-some, lay-right, grown-right, ruledMost, ruled-puts}
 use Rattle.search_form.proofs.RulesSizes.{surely, surely-searched, bottom-rooted, rules-none}
 
 -- ---- spans are as many as can be counted from the entries

@@ -2,7 +2,7 @@
 -- equalities on the same arguments, are searched word by word: a word is loaded once, a tree of comparisons finds its value, and what is
 -- left of that value's rules is searched by the next word. The other rules are tried before, one by one. The tree and how it is planted
 -- are those of the search for the number, and so is what leads to a match: a value with no rule left.
-use Prim.Native.Nat.{ℕ, zero, suc, _+_}
+use Prim.Native.Nat.{ℕ, suc, _+_}
 use mathlib.Core.Bool.{Bool, true, false, cond, _&&_}
 use mathlib.Core.List.{List, [], _∷_, _++_}
 use lib.Dec.{eqb, leb, ltb}

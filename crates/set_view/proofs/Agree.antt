@@ -1,6 +1,6 @@
 -- Where the format's reader gives something, it is what the total readers say, and ends where they say. So code that is proved by the
 -- total readers does what the reader's rule set means.
-use mathlib.Core.Path.{_≡_, refl, sym}
+use mathlib.Core.Path.{_≡_, sym}
 use mathlib.Core.Bool.{Bool, true, false, cond, _&&_}
 use mathlib.Core.List.{List}
 use mathlib.Core.Option.{Option, none, some}

@@ -1,7 +1,7 @@
 -- Laws of a counted walk over a set's bytes, once for parts of any kind: one part more, none left, where the walk ends, and that the
 -- next part ends inside where all that are left do; and what they say of rules and entries.
 use mathlib.Core.Path.{_≡_, refl, ap}
-use mathlib.Core.Bool.{Bool, true, false, not}
+use mathlib.Core.Bool.{true, false, not}
 use mathlib.Core.List.{List, [], _∷_}
 use Prim.Native.Nat.{ℕ, zero, suc, _+_, _-_, _*_, _≤_, _<_}
 use native.Mathlib.Omega.{arith}

@@ -1,6 +1,6 @@
 -- Laws of faults: the least of a list with one more list behind it, that it is the first with its number, and, for each number, which
 -- rule sets have such a fault and where the first one is. A further fault of a condition is a line in `condition-row` and `codes`.
-use mathlib.Core.Path.{_≡_, refl, ap, sym, _∙_}
+use mathlib.Core.Path.{_≡_, refl, sym, _∙_}
 use mathlib.Core.Bool.{Bool, true, false, cond, not, _&&_, _||_}
 use mathlib.Core.List.{List, [], _∷_, _++_}
 use Prim.Native.Nat.{ℕ, zero, suc, _+_, _≤_, _<_}
@@ -14,7 +14,7 @@ use Rattle.definitions.specs.declared.Condition.{Condition}
 use Rattle.definitions.specs.declared.Fault.{Fault}
 use Rattle.definitions.specs.RuleSet.{Rule, Entry, RuleSet, oneOf}
 use Rattle.definitions.specs.Format.{Each}
-use Rattle.definitions.specs.Answer.{indexTaken, fitsWidth, hasConditions, fault, nowhere, placeless, noFault, unless, faultsOf, conditionFaults, countFaults, ruleFaults, entriesFaults, setFaults, lesser, leastOf, all, ascending, rulesFilled, indicesTaken, widthsFit}
+use Rattle.definitions.specs.Answer.{indexTaken, fitsWidth, hasConditions, fault, nowhere, placeless, noFault, unless, faultsOf, conditionFaults, countFaults, ruleFaults, entriesFaults, setFaults, lesser, leastOf, all, ascending, indicesTaken}
 
 -- ---- the least
 

@@ -1,6 +1,6 @@
 -- NAMED: where an answer names a part, it is the first that has the fault.
 use mathlib.Core.Path.{_≡_, refl, ap, sym, _∙_}
-use mathlib.Core.Bool.{Bool, true, false, cond, not, _&&_, _||_, and-true, and-assoc}
+use mathlib.Core.Bool.{Bool, true, false, cond, not, _&&_, and-true, and-assoc}
 use mathlib.Core.List.{List, [], _∷_, _++_, append-assoc, append-nil}
 use mathlib.Core.Option.{Option, none, some}
 use Prim.Native.Nat.{ℕ, zero, suc, _+_, _*_, _^_, _≤_, _<_}
@@ -17,7 +17,7 @@ use Rattle.definitions.specs.RuleSet.{Rule, Entry, RuleSet, withEntries, guarde
 use Rattle.definitions.specs.Emitted.{emitted}
 use Rattle.definitions.specs.Format.{joined, encodeEntry, encode, InRange, read}
 use Rattle.definitions.specs.Answer as answers
-use Rattle.definitions.specs.Answer.{all, hasConditions, indexTaken, fitsWidth, tooMany, fault, nowhere, noFault, unless, setFaults, filterFaults, firstWith, shortWith, emittedSize, tooLong, halved, turnsLong, leastOf, refusal, answer, answerBy, answerOf}
+use Rattle.definitions.specs.Answer.{all, hasConditions, tooMany, fault, nowhere, noFault, unless, setFaults, filterFaults, firstWith, shortWith, emittedSize, tooLong, halved, turnsLong, leastOf, refusal, answer, answerBy, answerOf}
 use Rattle.definitions.specs.Machine.{Call, callOf}
 use Rattle.definitions.specs.Outcome.{decided, decidedRead, decidedOf}
 use Rattle.theorems.specs.Named.{FirstFailing, TurnsWith, FirstWith, noEntry, RuleNamed, ruleOf, NamedIn, Nowhere, refusedBy, Named, TurnsNamed, placeless, Unnamed, undecidedBy, DecidedNamed, undecided, DecidedUnnamed}

@@ -1,5 +1,5 @@
 -- ONCE: a run executes at most as many instructions as the filter has, and none of them twice. It holds of every filter.
-use mathlib.Core.Path.{_≡_, refl}
+use mathlib.Core.Path.{_≡_}
 use mathlib.Core.List.{List, [], _∷_}
 use Prim.Native.Nat.{ℕ, zero, suc, _+_, _≤_, _<_}
 use native.Mathlib.Omega.{arith}

@@ -1,6 +1,6 @@
 -- SAFE: a filter that the kernel takes is never stuck; every run of it returns an action.
-use mathlib.Core.Path.{_≡_, refl, sym, _∙_}
-use mathlib.Core.Bool.{Bool, true, false, cond, _&&_}
+use mathlib.Core.Path.{_≡_, refl}
+use mathlib.Core.Bool.{Bool, true, false, cond}
 use mathlib.Core.List.{List, [], _∷_}
 use mathlib.Core.Option.{Option, none, some}
 use Prim.Native.Nat.{ℕ, zero, suc, _+_, _≤_, _<_}
@@ -9,10 +9,10 @@ use lib.Dec.{leb, ltb}
 use lib.ListN.{length}
 use borrow.Author.Tests.{ltb-true, leb-true}
 use Rattle.definitions.specs.declared.Instruction.{Instruction}
-use Rattle.definitions.specs.Machine.{Call, State, Result, returns, stuck, Step, stop, next}
+use Rattle.definitions.specs.Machine.{Call, State, returns, stuck, Step, stop, next}
 use Rattle.definitions.specs.Machine.{Kind, ldAbs, ldLen, ldImm, ldMem, ldxLen, ldxImm, ldxMem, st, stx, tax, txa, neg, ja, retK, retA, unknown, alu, jump}
 use Rattle.definitions.specs.Machine.{fetch, words, kindOf, intoA, compute, testHolds, operand, stepAs, step, run, runs, start}
-use Rattle.definitions.specs.Kernel.{takenAs, eachTaken, Effect, effectAs, effectOf, isReturn, endsInReturn, scratchTaken, noWord, everyWord, accepts}
+use Rattle.definitions.specs.Kernel.{takenAs, eachTaken, effectAs, effectOf, isReturn, endsInReturn, scratchTaken, noWord, everyWord, accepts}
 use Rattle.theorems.specs.Statements.{Safe}
 use Rattle.theorems.proofs.Tests.{both-true}
 

@@ -8,9 +8,9 @@ use mathlib.Core.Logic.{_⊎_, inl, inr}
 use Prim.Native.Nat.{ℕ, zero, suc, _+_, _-_, _^_, _≤_, _<_}
 use native.Mathlib.Omega.{arith}
 use lib.Dec.{eqb, leb, ltb}
-use lib.ListN.{length, getD, set as store, replicate, length-set, List·getD-eq-default}
+use lib.ListN.{length, getD, set as store, length-set, List·getD-eq-default}
 use lib.Seq.{getD-set-same, getD-set-other, set-out}
-use borrow.Author.Tests.{eqb-true, eqb-false, eq-eqb, ltb-true, ltb-false, leb-true}
+use borrow.Author.Tests.{eqb-true, eqb-false, eq-eqb, ltb-true, ltb-false}
 use Rattle.definitions.specs.declared.Instruction.{Instruction}
 use Rattle.definitions.specs.Word.{low}
 use Rattle.definitions.specs.Machine.{Call, State, Result, returns, stuck, Step, stop, next, setA, setX, setM}
@@ -19,7 +19,7 @@ use Rattle.definitions.specs.Machine.{Source, byK, byX, fetch, kindOf, intoA, c
 use Rattle.definitions.specs.Kernel.{eachTaken, Effect, plain, reads, writes, jumps, branches, leaves, effectAs, effectOf, endsInReturn}
 use Rattle.definitions.specs.Kernel.{Words, everyWord, noWord, both, withWord, narrowed, scratchNext, scratchTaken, accepts}
 use Rattle.theorems.specs.Statements.{Scratch}
-use Rattle.theorems.proofs.Tests.{both-true, true-both, either-true}
+use Rattle.theorems.proofs.Tests.{both-true}
 
 -- two states that differ at most in scratch words outside a set
 record Alike (w : Words) (s t : State) : Type 0 where

@@ -4,7 +4,6 @@ use Prim.Native.Nat.{_+_, _*_, _≤_}
 use native.Mathlib.Omega.{arith}
 use lib.ListN.{length}
 use borrow.Author.Tests.{not-true, not-false}
-use denote.Ref.{now}
 use Rattle.definitions.specs.Machine.{callOf}
 use Rattle.definitions.specs.RuleSet.{allHold}
 use Rattle.set_view.specs.Parts.{conditionsHere}

@@ -1,5 +1,4 @@
 -- `fitting_run` meets its contract: the definition's tests, made one after the other.
-use borrow.Author.Needs.{needs}
 use native.Mathlib.Omega.{arith}
 use borrow.Author.Tests.{le-leb, lt-leb}
 use Rattle.judge.specs.Walk.{runFits}

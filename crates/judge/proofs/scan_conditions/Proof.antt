@@ -1,13 +1,11 @@
 -- `scan_conditions` meets its contract. The loop's invariant: what is left, told from here on top of what was found so far, is the whole.
-use mathlib.Core.Path.{_≡_, refl, ap, sym, _∙_}
+use mathlib.Core.Path.{_≡_, ap, sym, _∙_}
 use Prim.Native.Nat.{_≤_, _-_}
 use native.Mathlib.Omega.{arith}
 use borrow.Author.Needs.{needs}
 use borrow.Author.Tests.{not-true, not-false}
 use lib.ListN.{length}
-use denote.Ref.{now}
 use Rattle.definitions.specs.Format.{times, conditionAt}
-use Rattle.set_view.specs.Parts.{conditionHere}
 use Rattle.judge.specs.Walk.{sum, tells, told, tellCondition, conditionsStart, scanOf}
 use Rattle.set_view.proofs.Conditions.{there-not, condition-room, condition-value}
 use Rattle.judge.proofs.Walk.{whole, broken-off, walk-end, walk-stop, walk-turn}

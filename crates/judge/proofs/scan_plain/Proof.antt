@@ -1,5 +1,4 @@
 -- `scan_plain` meets its contract. The loop's invariant: what is left, told from here on top of what was found so far, is the whole.
-use borrow.Author.Needs.{needs}
 use mathlib.Core.Path.{_≡_, refl, sym, _∙_}
 use mathlib.Core.Bool.{cond}
 use Prim.Native.Nat.{_≤_, _+_, _-_, _*_}

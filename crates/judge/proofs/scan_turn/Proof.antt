@@ -1,5 +1,4 @@
 -- `scan_turn` meets its contract, by the function that it calls.
-use borrow.Author.Needs.{needs}
 use mathlib.Core.Path.{sym, _∙_}
 use native.Mathlib.Omega.{arith}
 use Rattle.judge.proofs.scan_turn.Statement.{statement}

@@ -1,6 +1,6 @@
 -- `put_plain` meets its contract. The loop's invariant: what is left, written here, is the whole, written there; and both are read
 -- from bytes that end at one place.
-use mathlib.Core.Path.{_≡_, refl, sym, _∙_}
+use mathlib.Core.Path.{_≡_, sym, _∙_}
 use Prim.Native.Nat.{_+_, _-_, _*_, _≤_}
 use native.Mathlib.Omega.{arith}
 use denote.Ref.{now}

@@ -1,6 +1,6 @@
 -- `put_turn` meets its contract: the entries without rules that stand there, else one entry.
 use borrow.Author.Needs.{needs}
-use mathlib.Core.Path.{_≡_, refl, sym, _∙_}
+use mathlib.Core.Path.{refl, sym, _∙_}
 use native.Mathlib.Omega.{arith}
 use denote.Ref.{now}
 use Rattle.definitions.specs.Emitted.{entryCode}

@@ -1,5 +1,4 @@
 -- `is_action` meets its contract: the actions one after the other.
-use borrow.Author.Needs.{needs}
 use borrow.Author.Tests.{eq-eqb, ne-eqb}
 use mathlib.Core.Bool.{or-false}
 use Rattle.definitions.specs.RuleSet.{oneOf, isAction}
