@@ -11,3 +11,9 @@ pub mod Outcome
 pub mod Parts
 pub mod Writers
 pub mod Readers
+pub mod Json
+pub mod JsonForm
+pub mod CallNames
+pub mod Collected
+pub mod JsonReader
+pub mod FormReader

@@ -1,0 +1,16 @@
+pub mod Tests
+pub mod Strings
+pub mod Parts
+pub mod Loops
+pub mod Numbers
+pub mod Values
+pub mod Faith
+pub mod Typed
+pub mod Form
+pub mod Objects
+pub mod Whole
+pub mod Sets
+pub mod Same
+pub mod Means
+pub mod Passes
+pub mod Examples
