@@ -1,5 +1,5 @@
 -- What the code's scanners say, by places of the text: they agree with the reader. Needs no belief.
-use Prim.Native.Nat.{ℕ, _+_, _≤_}
+use Prim.Native.Nat.{ℕ, _+_, _≤_, _<_}
 use mathlib.Core.Path.{_≡_}
 use mathlib.Core.Bool.{Bool, true, false, _||_}
 use lib.Dec.{eqb}
@@ -35,3 +35,25 @@ Stands text (stop k rest) r = (r .ok ≡ false) × At text rest (r .at)
 unfoldable pub isShort : ℕ → Bool
 isShort e =
     ((eqb e 0x22 || eqb e 0x5c) || (eqb e 0x2f || eqb e 0x62)) || ((eqb e 0x66 || eqb e 0x6e) || (eqb e 0x72 || eqb e 0x74))
+
+-- ---- what a function of the code tells that reads a part from a place on
+
+-- It was read: what it stands for is as `Is` says, and the place is behind it.
+pub record Past {A : Type 0} (text : List ℕ) (from : ℕ) (Is : A → Type 0) (a : A) (rest : List ℕ) (code at : ℕ) : Type 0 where
+  pub fine : code ≡ 0
+  pub on : from < at
+  pub place : At text rest at
+  pub value : Is a
+
+-- It was not: the number of the first fault, and its place.
+pub record Stopped (text : List ℕ) (fault : ℕ) (rest : List ℕ) (code at : ℕ) : Type 0 where
+  pub told : code ≡ fault
+  pub some : 0 < fault
+  pub place : At text rest at
+
+abbrev pub Either : {A : Type 0} → List ℕ → ℕ → (A → Type 0) → Got A → ℕ → ℕ → Type 0
+Either text from Is (got a rest) code at = Past text from Is a rest code at
+Either text from Is (stop k rest) code at = Stopped text k rest code at
+
+pub record Tells {A : Type 0} (text : List ℕ) (from : ℕ) (Is : A → Type 0) (g : Got A) (code at : ℕ) : Type 0 where
+  pub tells : Either text from Is g code at

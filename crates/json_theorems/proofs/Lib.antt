@@ -13,4 +13,5 @@ pub mod Sets
 pub mod Same
 pub mod Means
 pub mod Passes
+pub mod Turns
 pub mod Examples
