@@ -30,3 +30,12 @@ handed-on {text = text} {from} {from'} {code} {at} {Is} {Is'} {g} f t h = record
     go : (g' : Got _) → Either text from Is g' code at → Either text from' Is' (follow g' f) code at
     go (got a rest) s = absurd (h (s .fine))
     go (stop k rest) s = s
+
+-- what was read is made into something else
+pub made-into : {A B : Type 0} {text : List ℕ} {from code at : ℕ} {Is : A → Type 0} {Is' : B → Type 0} {g : Got A} (add : A → B)
+    → Tells text from Is g code at → ((a : A) → Is a → Is' (add a)) → Tells text from Is' (follow g (λ a rest. got (add a) rest)) code at
+made-into {text = text} {from} {code} {at} {Is} {Is'} {g} add t h = record { tells = go g (t .tells) }
+  where
+    go : (g' : Got _) → Either text from Is g' code at → Either text from Is' (follow g' (λ a rest. got (add a) rest)) code at
+    go (got a rest) s = record { fine = s .fine; on = s .on; place = s .place; value = h a (s .value) }
+    go (stop k rest) s = s

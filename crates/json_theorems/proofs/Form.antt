@@ -344,7 +344,7 @@ abbrev pub keysBelow : ℕ → List Key → Bool
 keysBelow n [] = true
 keysBelow n (k ∷ ks) = leb (suc (k .field)) n && keysBelow n ks
 
-keys-below : (n : ℕ) (keys : List Key) → keysBelow n keys ≡ true → (k : List ℕ) (f : ℕ) → fieldOf keys k ≡ some f → f < n
+pub keys-below : (n : ℕ) (keys : List Key) → keysBelow n keys ≡ true → (k : List ℕ) (f : ℕ) → fieldOf keys k ≡ some f → f < n
 keys-below n [] t k f e = absurd (none-not-some e)
 keys-below n (x ∷ keys) t k f e =
     let p = both-true (leb (suc (x .field)) n) (keysBelow n keys) t in

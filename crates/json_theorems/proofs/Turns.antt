@@ -11,7 +11,7 @@ use Rattle.definitions.specs.Json.{quote}
 use Rattle.definitions.specs.JsonForm.{Key, fieldOf}
 use Rattle.definitions.specs.JsonReader.{Got, got, stop, notJson, follow, first, blanks, ended, stringAt, placed, badCharacter, unless, keyAt, fields, objectAt, items, arrayAt}
 use Rattle.definitions.specs.FormReader.{notOfForm, givenTwice, wrong, orStop, behindKey, putIn, Typed, typed, hasTyped, fieldJudge, fieldReader, objectThere, arrayThere, listThere}
-use Rattle.json_theorems.specs.Turns.{openThere, fieldThere, colonThere, moreThere}
+use Rattle.json_theorems.specs.Turns.{openThere, fieldThere, colonThere, moreThere, Turned, turned, turnedThere, fieldTurn}
 
 -- what comes behind a value that was read: the turns that are left, or the end
 abbrev pub onward : {P : Type 0} → ℕ → (P → List ℕ → Got P) → P → List ℕ → Got P
@@ -95,6 +95,56 @@ field-turn {A = A} keys reads n ts l = quoted (eqb (first (blanks l)) quote) (pl
     quoted true (got k rest) = known k rest (fieldOf keys k) refl
     quoted true (stop k m) = refl
     quoted false g = refl
+
+-- the turns that are left behind one
+abbrev pub turnsOn : {P : Type 0} → (P → List ℕ → Got P) → Got (Turned P) → Got P
+turnsOn turns g = follow g (λ u next. cond (u .more) (turns (u .gathered) next) (got (u .gathered) next))
+
+turned-onward : {P : Type 0} (bracket : ℕ) (turns : P → List ℕ → Got P) (p : P) (rest : List ℕ)
+    → onward bracket turns p rest ≡ turnsOn turns (turnedThere bracket p rest)
+unfolding turnedThere
+turned-onward bracket turns p rest = go (moreThere bracket rest)
+  where
+    go : (g : Got Bool) → follow g (λ more next. cond more (turns p next) (got p next)) ≡ turnsOn turns (follow g (λ more next. got (turned p more) next))
+    go (got more next) = refl
+    go (stop k l) = refl
+
+pub field-turns : {A : Type 0} (keys : List Key) (reads : ℕ → List ℕ → Got A) (n : ℕ) (ts : List (Typed A)) (l : List ℕ)
+    → fieldTurns keys reads (suc n) ts l ≡ turnsOn (fieldTurns keys reads n) (fieldTurn keys reads ts l)
+unfolding fieldTurn
+field-turns {A = A} keys reads n ts l = field-turn keys reads n ts l ∙ known (fieldThere keys (blanks l))
+  where
+    turns : List (Typed A) → List ℕ → Got (List (Typed A))
+    turns = fieldTurns keys reads n
+
+    one : ℕ → A → List ℕ → Got (Turned (List (Typed A)))
+    one f a rest = turnedThere 0x7d (typed f a ∷ ts) rest
+
+    read : (f : ℕ) (g : Got A) → follow g (λ a rest. onward 0x7d turns (typed f a ∷ ts) rest) ≡ turnsOn turns (follow g (one f))
+    read f (got a rest) = turned-onward 0x7d turns (typed f a ∷ ts) rest
+    read f (stop k m) = refl
+
+    valued : (f : ℕ) (g : Got ℕ)
+        → follow g (λ z behind. follow (reads f behind) (λ a rest. onward 0x7d turns (typed f a ∷ ts) rest)) ≡ turnsOn turns (follow g (λ z behind. follow (reads f behind) (one f)))
+    valued f (got z behind) = read f (reads f behind)
+    valued f (stop k m) = refl
+
+    new : (f : ℕ) (past : List ℕ) (b : Bool)
+        → cond b (stop givenTwice (blanks l)) (valueTurn keys reads n ts f past)
+        ≡ turnsOn turns (cond b (stop givenTwice (blanks l)) (follow (colonThere past) (λ z behind. follow (reads f behind) (one f))))
+    new f past true = refl
+    new f past false = valued f (colonThere past)
+
+    known : (g : Got ℕ)
+        → follow g (λ f past. cond (hasTyped f ts) (stop givenTwice (blanks l)) (valueTurn keys reads n ts f past))
+        ≡ turnsOn turns (follow g (λ f past. cond (hasTyped f ts) (stop givenTwice (blanks l)) (follow (colonThere past) (λ z behind. follow (reads f behind) (one f)))))
+    known (got f past) = new f past (hasTyped f ts)
+    known (stop k m) = refl
+
+-- where nothing is left, a turn stops as the reader does
+pub nothing-turns : {A : Type 0} (keys : List Key) (reads : ℕ → List ℕ → Got A) (ts : List (Typed A)) → fieldTurn keys reads ts [] ≡ stop notJson []
+unfolding fieldTurn fieldThere blanks
+nothing-turns keys reads ts = refl
 
 -- an object: empty, or its turns
 pub object-begins : {A : Type 0} (keys : List Key) (reads : ℕ → List ℕ → Got A) (l : List ℕ)
