@@ -14,4 +14,5 @@ pub mod Same
 pub mod Means
 pub mod Passes
 pub mod Turns
+pub mod Sizes
 pub mod Examples

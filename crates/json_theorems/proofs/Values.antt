@@ -302,7 +302,7 @@ string-there l v rest e =
       here = ap (λ (t : List ℕ). quote ∷ t) (s .here ∙ ap (λ (t : List ℕ). s .bytes ++ t) er);
     }
 
-written-long : {b : List ℕ} {v : Json} → Written b v → 1 ≤ length b
+pub written-long : {b : List ℕ} {v : Json} → Written b v → 1 ≤ length b
 unfolding ascii
 written-long aNull = omega arith
 written-long aTrue = omega arith
