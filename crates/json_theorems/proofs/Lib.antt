@@ -15,4 +15,5 @@ pub mod Means
 pub mod Passes
 pub mod Turns
 pub mod Sizes
+pub mod Ranges
 pub mod Examples

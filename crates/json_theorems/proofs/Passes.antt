@@ -1,64 +1,70 @@
 -- What passes line by line passes when collected: of a set that reading JSON wrote, compiling refuses nothing but its filter's length. Assumes nothing.
 use mathlib.Core.Path.{_≡_, refl, ap, sym, _∙_}
-use mathlib.Core.Bool.{Bool, true, false, cond, not, _&&_}
-use mathlib.Core.List.{List, [], _∷_, _++_}
-use Prim.Native.Nat.{ℕ}
+use mathlib.Core.Bool.{Bool, true, false, cond, not}
+use mathlib.Core.List.{List, [], _∷_}
 use lib.Dec.{eqb, ltb}
 use borrow.Author.Tests.{eq-eqb}
-use Rattle.definitions.specs.RuleSet.{Architecture, Rule, Entry, RuleSet}
-use Rattle.definitions.specs.Answer.{all, everyRule, hasConditions, indexTaken, fitsWidth, rulesFilled, indicesTaken, widthsFit, ascending, setFaults}
+use Rattle.definitions.specs.RuleSet.{Architecture, Rule, Entry}
+use Rattle.definitions.specs.Format.{Each}
+use Rattle.definitions.specs.Answer.{all, hasConditions, indexTaken, fitsWidth, rulesFilled, indicesTaken, widthsFit, setFaults}
 use Rattle.definitions.specs.JsonForm.{Filter}
 use Rattle.definitions.specs.Collected.{together, inTurn, insert, collected, setWith, taken}
+use Rattle.theorems.proofs.Tests.{each-of}
 use Rattle.theorems.proofs.Answers.{nothing-wrong}
 use Rattle.json_theorems.proofs.Tests.{both-true, false-not-true}
 use Rattle.json_theorems.proofs.Means.{collected-ascending}
 
-both : (a b : Bool) → a ≡ true → b ≡ true → (a && b) ≡ true
-both a b p q = rw (p, q)
+-- ---- what holds of entries, collected
 
-all-append : (f : Rule → Bool) (r s : List Rule) → all f r ≡ true → all f s ≡ true → all f (r ++ s) ≡ true
-all-append f [] s p q = q
-all-append f (x ∷ r) s p q =
-    let h = both-true (f x) (all f r) p in
-    both (f x) (all f (r ++ s)) (h .0) (all-append f r s (h .1) q)
+-- a way to put rules together that adds none
+abbrev pub Adds : (List Rule → List Rule → List Rule) → Type 1
+Adds join = (P : Rule → Type 0) (r s : List Rule) → Each P r → Each P s → Each P (join r s)
 
-all-together : (f : Rule → Bool) (r s : List Rule) → all f r ≡ true → all f s ≡ true → all f (together r s) ≡ true
-all-together f [] s p q = refl
-all-together f (x ∷ r) [] p q = refl
-all-together f (x ∷ r) (y ∷ s) p q = all-append f (x ∷ r) (y ∷ s) p q
+pub adds-upstream : Adds inTurn
+adds-upstream P [] s p q = q
+adds-upstream P (x ∷ r) s p q = (p .0, adds-upstream P r s (p .1) q)
+
+pub adds-written : Adds together
+adds-written P [] s p q = tt
+adds-written P (x ∷ r) [] p q = tt
+adds-written P (x ∷ r) (y ∷ s) p q = adds-upstream P (x ∷ r) (y ∷ s) p q
+
+module _ (join : List Rule → List Rule → List Rule) (E : Entry → Type 0)
+    (joins : (e f : Entry) → E e → E f → E (record { number = e .number; rules = join (e .rules) (f .rules) })) where
+  insert-keeps : (e : Entry) (es : List Entry) → E e → Each E es → Each E (insert join e es)
+  unfolding insert
+  insert-keeps e [] h hs = (h, tt)
+  insert-keeps e (f ∷ fs) h hs = go (ltb (e .number) (f .number)) (eqb (e .number) (f .number)) (insert-keeps e fs h (hs .1))
+    where
+      go : (a b : Bool) → Each E (insert join e fs)
+          → Each E (cond a (e ∷ (f ∷ fs)) (cond b (record { number = e .number; rules = join (e .rules) (f .rules) } ∷ fs) (f ∷ insert join e fs)))
+      go true b ih = (h, hs)
+      go false true ih = (joins e f h (hs .0), hs .1)
+      go false false ih = (hs .0, ih)
+
+  pub collected-keeps : (es : List Entry) → Each E es → Each E (collected join es)
+  unfolding collected
+  collected-keeps [] h = tt
+  collected-keeps (e ∷ es) h = insert-keeps e (collected join es) (h .0) (collected-keeps es (h .1))
+
+-- ---- tests
+
+all-of : {A : Type 0} (f : A → Bool) (xs : List A) → Each (λ x. f x ≡ true) xs → all f xs ≡ true
+all-of f [] h = refl
+all-of f (x ∷ xs) h = rw (h .0, all-of f xs (h .1))
+
+of-all : {A : Type 0} (f : A → Bool) (xs : List A) → all f xs ≡ true → Each (λ x. f x ≡ true) xs
+of-all f = each-of f (λ x h. h)
 
 abbrev Passes : (Rule → Bool) → List Entry → Type 0
 Passes f es = all (λ (e : Entry). all f (e .rules)) es ≡ true
 
--- a way to put rules together that adds none
-abbrev pub Adds : (List Rule → List Rule → List Rule) → Type 0
-Adds join = (f : Rule → Bool) (r s : List Rule) → all f r ≡ true → all f s ≡ true → all f (join r s) ≡ true
-
-pub adds-upstream : Adds inTurn
-adds-upstream f r s p q = all-append f r s p q
-
-pub adds-written : Adds together
-adds-written f r s p q = all-together f r s p q
-
-insert-passes : (join : List Rule → List Rule → List Rule) → Adds join → (f : Rule → Bool) (e : Entry) (es : List Entry) → all f (e .rules) ≡ true → Passes f es → Passes f (insert join e es)
-unfolding insert
-insert-passes join adds f e [] p q = both _ _ p refl
-insert-passes join adds f e (g ∷ gs) p q =
-    let h = both-true (all f (g .rules)) (all (λ (x : Entry). all f (x .rules)) gs) q in
-    go (ltb (e .number) (g .number)) (eqb (e .number) (g .number)) (h .0) (h .1) (insert-passes join adds f e gs p (h .1))
-  where
-    go : (a b : Bool) → all f (g .rules) ≡ true → Passes f gs → Passes f (insert join e gs)
-        → Passes f (cond a (e ∷ (g ∷ gs)) (cond b (record { number = e .number; rules = join (e .rules) (g .rules) } ∷ gs) (g ∷ insert join e gs)))
-    go true b hg hs ih = both (all f (e .rules)) _ p q
-    go false true hg hs ih = both (all f (join (e .rules) (g .rules))) _ (adds f (e .rules) (g .rules) p hg) hs
-    go false false hg hs ih = both (all f (g .rules)) _ hg ih
-
 pub collected-passes : (join : List Rule → List Rule → List Rule) → Adds join → (f : Rule → Bool) (es : List Entry) → Passes f es → Passes f (collected join es)
-unfolding collected
-collected-passes join adds f [] p = refl
-collected-passes join adds f (e ∷ es) p =
-    let h = both-true (all f (e .rules)) (all (λ (x : Entry). all f (x .rules)) es) p in
-    insert-passes join adds f e (collected join es) (h .0) (collected-passes join adds f es (h .1))
+collected-passes join adds f es p =
+    all-of _ (collected join es) (collected-keeps join (λ e. all f (e .rules) ≡ true) joins es (of-all _ es p))
+  where
+    joins : (e g : Entry) → all f (e .rules) ≡ true → all f (g .rules) ≡ true → all f (join (e .rules) (g .rules)) ≡ true
+    joins e g x y = all-of f (join (e .rules) (g .rules)) (adds (λ r. f r ≡ true) (e .rules) (g .rules) (of-all f (e .rules) x) (of-all f (g .rules) y))
 
 -- nothing is refused in the collected set, whatever its filter's length
 pub compiles : (join : List Rule → List Rule → List Rule) → Adds join → (a : Architecture) (native : Bool) (f : Filter) (es : List Entry) → taken (setWith a native f es) ≡ true
