@@ -13,9 +13,9 @@ use Rattle.definitions.specs.Word.{AreBytes, bytesOf, numberAt}
 use Rattle.definitions.specs.Format.{joined}
 use Rattle.theorems.proofs.Words.{length-bytes, number-here, number-front, number-drop, number-at-small}
 use Rattle.definitions.specs.Json.{all}
-use Rattle.definitions.specs.CallNames.{Slot, encodeSlot, before, inOrder, slotTaken, slotsTaken, TableOf, numberFor}
+use Rattle.definitions.specs.CallNames.{Slot, encodeSlot, before, inOrder, slotTaken, slotsTaken, TableOf, numberFor, isZero, untilZero, nameIn, slotIn, slotsIn, isNamed, badAt, firstBad, slotCount}
 use Rattle.json_theorems.proofs.Tests.{false-not-true, both-true}
-use Rattle.call_names.specs.Slots.{isZero, untilZero, nameIn, slotIn, slotsIn, isNamed, badAt, firstBad, slotCount, Good}
+use Rattle.call_names.specs.Slots.{Good}
 use Rattle.call_names.proofs.Ranks.{Before, shorter, before-is, is-before, isByte}
 use Rattle.call_names.proofs.Search.{AreGood, FirstGood, first-good, spells, name-short, whole, named-law, start-law}
 

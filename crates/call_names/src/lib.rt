@@ -6,8 +6,8 @@ ghost use Prim.Native.Nat.{ℕ, _+_, _*_, _-_, _≤_, _<_};
 ghost use lib.Dec.{leb};
 ghost use lib.ListN.{length, drop, take, getD};
 ghost use Rattle.definitions.specs.Json.{all};
-ghost use Rattle.definitions.specs.CallNames.{numberFor, before};
-ghost use Rattle.call_names.specs.Slots.{isZero, nameIn, isNamed, firstBad, slotCount, slotsIn, Good, compared, Kept, Answers, untilZero, Prior, priorName};
+ghost use Rattle.definitions.specs.CallNames.{numberFor, before, isZero, nameIn, isNamed, firstBad, slotCount, slotsIn, untilZero};
+ghost use Rattle.call_names.specs.Slots.{Good, compared, Kept, Answers, Prior, priorName};
 
 // The number of a name, where the table has it.
 pub struct Called {

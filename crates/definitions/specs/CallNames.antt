@@ -1,13 +1,13 @@
 -- The table of call names that is lent: slots of 32 bytes, a name of 1 to 28 bytes, filled up with zeros to 28, and the call's number in 4,
 -- lowest byte first. The names ascend strictly, compared byte by byte, so that no name is there twice.
-use Prim.Native.Nat.{ℕ, zero, suc, _+_, _-_, _*_, _^_, _<_}
+use Prim.Native.Nat.{ℕ, zero, suc, _+_, _-_, _/_, _^_}
 use mathlib.Core.Path.{_≡_}
-use mathlib.Core.Bool.{Bool, true, false, cond, not, _&&_, _||_}
+use mathlib.Core.Bool.{Bool, true, false, cond, _&&_, _||_}
 use mathlib.Core.List.{List, [], _∷_, _++_}
 use mathlib.Core.Option.{Option, none, some}
 use lib.Dec.{eqb, leb, ltb}
-use lib.ListN.{length, replicate}
-use Rattle.definitions.specs.Word.{bytesOf}
+use lib.ListN.{length, replicate, take, drop}
+use Rattle.definitions.specs.Word.{bytesOf, numberAt}
 use Rattle.definitions.specs.Format.{joined}
 use Rattle.definitions.specs.Json.{all}
 use Rattle.definitions.specs.JsonForm.{same}
@@ -47,3 +47,40 @@ pub record TableOf (slots : List Slot) (bytes : List ℕ) : Type 0 where
 unfoldable pub numberFor : List Slot → List ℕ → Option ℕ
 numberFor [] k = none
 numberFor (s ∷ ss) k = cond (same (s .name) k) (some (s .number)) (numberFor ss k)
+
+-- ---- the same by places: where bytes go wrong as a table, and what its slots are where they do not
+
+abbrev pub isZero : ℕ → Bool
+isZero b = eqb b 0
+
+-- the bytes in front of the first zero
+unfoldable pub untilZero : List ℕ → List ℕ
+untilZero [] = []
+untilZero (b ∷ bs) = let more : List ℕ = b ∷ untilZero bs in cond (isZero b) [] more
+
+-- the name of the slot at the front of bytes
+unfoldable pub nameIn : List ℕ → List ℕ
+nameIn l = untilZero (take 28 l)
+
+unfoldable pub slotIn : List ℕ → Slot
+slotIn l = record { name = nameIn l; number = numberAt 4 l 28 }
+
+unfoldable pub slotsIn : ℕ → List ℕ → List Slot
+slotsIn zero l = []
+slotsIn (suc n) l = slotIn l ∷ slotsIn n (drop 32 l)
+
+-- a name of at least one byte, and zeros behind it
+unfoldable pub isNamed : List ℕ → Bool
+isNamed l = leb 1 (length (nameIn l)) && all isZero (drop (length (nameIn l)) (take 28 l))
+
+-- how many bytes of n slots are in front of the first one that has no name, or one that is not behind the name before it (p for the first)
+unfoldable pub badAt : ℕ → List ℕ → List ℕ → ℕ
+badAt zero p l = 0
+badAt (suc n) p l = let more : ℕ = 32 + badAt n (nameIn l) (drop 32 l) in cond (isNamed l && before p (nameIn l)) more 0
+
+abbrev pub slotCount : List ℕ → ℕ
+slotCount table = length table / 32
+
+-- where the first bad slot begins; the table's length where none does
+abbrev pub firstBad : List ℕ → ℕ
+firstBad table = badAt (slotCount table) [] table

@@ -17,3 +17,4 @@ pub mod CallNames
 pub mod Collected
 pub mod JsonReader
 pub mod FormReader
+pub mod FromJson

@@ -121,3 +121,25 @@ pub struct Compared {
     pub value: u64,
     pub mask: u64,
 }
+
+// What reading a JSON text answers: a number that says what became of it, and where in the text the fault is (with 14 in the table). With 0
+// how many sets were written, and bytes; with 7 which buffer is too short (1: scratch, 2: the one for the sets), and what it needs.
+#[repr(C)]
+pub struct JsonAnswer {
+    pub code: u32,
+    pub at: u32,
+    pub count: u32,
+    pub end: u32,
+}
+
+// Where a named set stands among bytes that are named sets: what became of looking for it (0: it is there), its name, its set, and the
+// place of the next one.
+#[repr(C)]
+pub struct NamedPlace {
+    pub code: u32,
+    pub name: u32,
+    pub name_len: u32,
+    pub set: u32,
+    pub set_len: u32,
+    pub next: u32,
+}
