@@ -2,15 +2,19 @@
 use mathlib.Core.Path.{_≡_, refl, ap, sym, _∙_}
 use mathlib.Core.Bool.{Bool, true, false, cond, not}
 use mathlib.Core.List.{List, [], _∷_}
-use lib.Dec.{eqb, ltb}
+use Prim.Native.Nat.{ℕ, _*_}
+use lib.Dec.{eqb, leb, ltb}
 use borrow.Author.Tests.{eq-eqb}
-use Rattle.definitions.specs.RuleSet.{Architecture, Rule, Entry}
-use Rattle.definitions.specs.Format.{Each}
-use Rattle.definitions.specs.Answer.{all, hasConditions, indexTaken, fitsWidth, rulesFilled, indicesTaken, widthsFit, setFaults}
+use Rattle.definitions.specs.RuleSet.{Architecture, Rule, Entry, RuleSet}
+use Rattle.definitions.specs.Format.{Each, encode, InRange}
+use Rattle.definitions.specs.Answer.{all, hasConditions, indexTaken, fitsWidth, rulesFilled, indicesTaken, widthsFit, tooMany}
 use Rattle.definitions.specs.JsonForm.{Filter}
+use Rattle.definitions.specs.FromJson.{byLength}
 use Rattle.definitions.specs.Collected.{together, inTurn, insert, collected, setWith, taken}
+use Rattle.theorems.specs.Outputs.{Output, sizeIn, answerIn}
 use Rattle.theorems.proofs.Tests.{each-of}
-use Rattle.theorems.proofs.Answers.{nothing-wrong}
+use Rattle.theorems.proofs.RoundTrip.{written-read}
+use Rattle.theorems.proofs.Faultless.{faultless}
 use Rattle.json_theorems.proofs.Tests.{both-true, false-not-true}
 use Rattle.json_theorems.proofs.Means.{collected-ascending}
 
@@ -66,16 +70,23 @@ collected-passes join adds f es p =
     joins : (e g : Entry) → all f (e .rules) ≡ true → all f (g .rules) ≡ true → all f (join (e .rules) (g .rules)) ≡ true
     joins e g x y = all-of f (join (e .rules) (g .rules)) (adds (λ r. f r ≡ true) (e .rules) (g .rules) (of-all f (e .rules) x) (of-all f (g .rules) y))
 
--- nothing is refused in the collected set, whatever its filter's length
+-- of a collected set in range compiling refuses nothing but its filter's length, and a buffer's
 pub compiles : (join : List Rule → List Rule → List Rule) → Adds join → (a : Architecture) (native : Bool) (f : Filter) (es : List Entry) → taken (setWith a native f es) ≡ true
-    → setFaults (setWith a native f (collected join es)) ≡ []
+    → InRange (setWith a native f (collected join es)) → (o : Output) (room : ℕ) → byLength (answerIn o (encode (setWith a native f (collected join es))) room .code) ≡ true
 unfolding taken
-compiles join adds a native f es t =
+compiles join adds a native f es t ranged o room =
     let p = both-true (not (eqb (f .mismatch) (f .onMatch))) _ t in
     let q = both-true (rulesFilled (setWith a native f es)) _ (p .1) in
     let r = both-true (indicesTaken (setWith a native f es)) (widthsFit (setWith a native f es)) (q .1) in
-    nothing-wrong _ (collected-ascending join es) (λ e. differ e (p .0)) (collected-passes join adds hasConditions es (q .0))
-    (collected-passes join adds (all indexTaken) es (r .0)) (collected-passes join adds (all fitsWidth) es (r .1))
+    let rs : RuleSet = setWith a native f (collected join es) in
+    let code = faultless o (encode rs) rs (written-read rs ranged) (collected-ascending join es) (λ e. differ e (p .0)) (collected-passes join adds hasConditions es (q .0))
+    (collected-passes join adds (all indexTaken) es (r .0)) (collected-passes join adds (all fitsWidth) es (r .1)) room .0 in
+    rw code (by (leb tooMany (sizeIn o rs)) (ltb room (8 * sizeIn o rs)))
   where
     differ : f .mismatch ≡ f .onMatch → not (eqb (f .mismatch) (f .onMatch)) ≡ true → ⊥
     differ e h = false-not-true (sym (ap not (eq-eqb _ _ e)) ∙ h)
+
+    by : (long short : Bool) → byLength (cond long 6 (cond short 7 0)) ≡ true
+    by true short = refl
+    by false true = refl
+    by false false = refl

@@ -1,27 +1,28 @@
 -- What a text means can be written: the numbers of a condition that the form takes are in range, actions are actions, a table's numbers have 32 bits,
 -- and a text of at most 1 MiB means no set of more. Assumes nothing.
-use mathlib.Core.Path.{_≡_, refl, ap, subst, sym, _∙_}
+use mathlib.Core.Path.{_≡_, refl, ap, subst, sym}
 use mathlib.Core.Bool.{Bool, true, false, cond, not, _&&_, _||_}
 use mathlib.Core.List.{List, [], _∷_, _++_}
 use mathlib.Core.Option.{Option, none, some}
-use Prim.Native.Nat.{ℕ, _+_, _-_, _*_, _/_, _%_, _^_, _≤_, _<_}
+use Prim.Native.Nat.{ℕ, _+_, _-_, _/_, _%_, _^_, _≤_, _<_}
 use native.Mathlib.Omega.{arith}
-use lib.Dec.{eqb, leb, ltb}
+use lib.Dec.{leb, ltb}
 use lib.ListN.{length, length-append}
 use borrow.Author.Tests.{leb-true, ltb-true}
-use Rattle.definitions.specs.declared.Operator.the-variants.{MaskedEq}
 use Rattle.definitions.specs.declared.Condition.{Condition}
 use Rattle.definitions.specs.RuleSet.{Architecture, Rule, Entry, RuleSet, oneOf, plainActions, numberedActions, isAction}
-use Rattle.definitions.specs.Format.{then, check, Each, joined, encode, MaskInRange, ConditionInRange, EntryInRange, InRange}
+use Rattle.definitions.specs.Format.{then, Each, joined, encode, MaskInRange, ConditionInRange, EntryInRange, InRange}
 use Rattle.definitions.specs.Json.{ascii, isDigit, Json, null, boolean, number, string, array, object, Values, noValues, value, Members, noMembers, member, Text}
 use Rattle.definitions.specs.Json as json
-use Rattle.definitions.specs.JsonForm.{same, decimal, natural, stringOf, eachOf, listOf, fieldsOf, given, needed, optional, onlyOf, Word, wordOf, either, actionWords, numberedWords, actionOf, widthWords, operatorWords, operatorOf, Compared, Line, Filter, conditionKeys, conditionOf, lineKeys, lineOf, filterKeys, filterOf, named, filtersFrom, filtersOf}
+use Rattle.definitions.specs.JsonForm.{same, decimal, natural, stringOf, eachOf, listOf, fieldsOf, given, needed, optional, onlyOf, Word, wordOf, either, actionWords, numberedWords, actionOf, operatorWords, operatorOf, Compared, Line, Filter, conditionKeys, conditionOf, lineKeys, lineOf, filterKeys, filterOf, named, filtersFrom, filtersOf}
 use Rattle.definitions.specs.CallNames.{Slot, slotTaken, slotsTaken, numberFor}
-use Rattle.definitions.specs.Collected.{rulesOfArgs, numbered, insert, collected, setWith, taken, setOf, NamedSet, encodeNamed, setsOf}
+use Rattle.definitions.specs.Collected.{rulesOfArgs, numbered, collected, setWith, taken, setOf, NamedSet, encodeNamed, setsOf}
+use Rattle.definitions.specs.FromJson.{Compiles}
+use Rattle.theorems.specs.Outputs.{list, search}
 use Rattle.json_theorems.proofs.Tests.{none-not-some, then-some, check-some, both-true}
 use Rattle.json_theorems.proofs.Faith.{some-same}
-use Rattle.json_theorems.proofs.Passes.{Adds, collected-keeps}
-use Rattle.json_theorems.proofs.Sizes.{length-named}
+use Rattle.json_theorems.proofs.Passes.{Adds, collected-keeps, compiles}
+use Rattle.json_theorems.proofs.Sizes.{Shrinks, length-named, meant-size}
 
 -- ---- numbers, words, actions and operators
 
@@ -236,3 +237,44 @@ numbered-range table t (l ∷ ls) es e h =
 collected-range : (join : List Rule → List Rule → List Rule) → Adds join → (es : List Entry) → Each EntryInRange es → Each EntryInRange (collected join es)
 collected-range join adds =
     collected-keeps join EntryInRange (λ e f x y. record { number = x .number; rules = adds (Each ConditionInRange) (e .rules) (f .rules) (x .rules) (y .rules) })
+
+-- ---- their sets
+
+module _ (join : List Rule → List Rule → List Rule) (adds : Adds join) (table : List Slot) (tabled : slotsTaken table ≡ true) (a : Architecture) (native : Bool) where
+  set-compiles : (f : Filter) (rs : RuleSet) → setOf join table a native f ≡ some rs → FilterInRange f → length (encode rs) ≤ 2 ^ 20 → Compiles rs
+  unfolding setOf
+  set-compiles f rs e h size =
+      let n = then-some (numbered table (f .lines)) _ rs e in
+      let c = check-some (taken (setWith a native f (n .0))) _ rs (n .2) in
+      let is : setWith a native f (collected join (n .0)) ≡ rs = some-same (c .1) in
+      let ranged : InRange (setWith a native f (collected join (n .0))) = record {
+        mismatch = h .mismatch;
+        onMatch = h .onMatch;
+        entries = collected-range join adds (n .0) (numbered-range table tabled (f .lines) (n .0) (n .1) (h .lines));
+        size = subst (λ (x : RuleSet). length (encode x) ≤ 2 ^ 20) (sym is) size;
+      } in
+      subst Compiles is (record {
+        ranged = ranged;
+        listed = compiles join adds a native f (n .0) (c .0) ranged list;
+        searched = compiles join adds a native f (n .0) (c .0) ranged search;
+      })
+
+  sets-compile : (fs : List Filter) (sets : List NamedSet) → setsOf join table a native fs ≡ some sets → Each FilterInRange fs → length (joined encodeNamed sets) ≤ 2 ^ 20
+      → Each (λ s. Compiles (s .set)) sets
+  unfolding setsOf
+  sets-compile [] sets e h size = subst (Each (λ s. Compiles (s .set))) (some-same e) tt
+  sets-compile (f ∷ fs) sets e h size =
+      let s = then-some (setOf join table a native f) _ sets e in
+      let r = then-some (setsOf join table a native fs) _ sets (s .2) in
+      let one : NamedSet = record { name = f .name; set = s .0 } in
+      let is : one ∷ r .0 ≡ sets = some-same (r .2) in
+      let z = ap (λ (x : List NamedSet). length (joined encodeNamed x)) is in
+      let l = length-append (encodeNamed one) (joined encodeNamed (r .0)) in
+      subst (Each (λ s. Compiles (s .set))) is
+      (set-compiles f (s .0) (s .1) (h .0) (omega (arith, length-named one)), sets-compile fs (r .0) (r .1) (h .1) (omega arith))
+
+  -- each set of a text of at most 1 MiB compiles, unless its filter is too long or the buffer too short
+  pub meant-compile : Shrinks join → {t : List ℕ} {v : Json} → Text t v → length t ≤ 2 ^ 20 → (fs : List Filter) (sets : List NamedSet)
+      → filtersOf v ≡ some fs → setsOf join table a native fs ≡ some sets → Each (λ s. Compiles (s .set)) sets
+  meant-compile shrinks {t} {v} w h fs sets e m =
+      sets-compile fs sets m (filters-range v fs e) (omega (arith, meant-size join shrinks table a native w fs sets e m))
