@@ -15,6 +15,7 @@ use Rattle.theorems.proofs.Words.{length-bytes, number-here, number-front, numb
 use Rattle.definitions.specs.Json.{all}
 use Rattle.definitions.specs.CallNames.{Slot, encodeSlot, before, inOrder, slotTaken, slotsTaken, TableOf, numberFor, isZero, untilZero, nameIn, slotIn, slotsIn, isNamed, badAt, firstBad, slotCount}
 use Rattle.json_theorems.proofs.Tests.{false-not-true, both-true}
+use Rattle.json_theorems.proofs.FromJson.{Tables}
 use Rattle.call_names.specs.Slots.{Good}
 use Rattle.call_names.proofs.Ranks.{Before, shorter, before-is, is-before, isByte}
 use Rattle.call_names.proofs.Search.{AreGood, FirstGood, first-good, spells, name-short, whole, named-law, start-law}
@@ -219,3 +220,10 @@ table-good slots table t =
     let h = o .long in
     let n : slotCount table ≡ length slots = omega arith in
     record { good = record { good = rw n (o .are ∙ sym h) }; these = rw n (o .these) }
+
+-- what reading JSON needs of the table
+pub tables : (table : List ℕ) → AreBytes table → Tables table
+tables table h = record {
+  good = λ g. good-table table h (record { good = g });
+  only = λ slots t. let u = table-good slots table t in (u .good .good, u .these);
+}

@@ -16,4 +16,6 @@ pub mod Passes
 pub mod Turns
 pub mod Sizes
 pub mod Ranges
+pub mod Steady
+pub mod FromJson
 pub mod Examples
