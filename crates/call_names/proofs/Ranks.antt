@@ -60,22 +60,6 @@ not-same-behind (shorter b bs) = refl
 not-same-behind (lower a b ws bs h) = rw (ne-eqb b a (λ e. omega arith))
 not-same-behind (equal a ws bs h) = rw (eq-eqb a a refl, not-same-behind h)
 
-pub same-self : (x : List ℕ) → same x x ≡ true
-unfolding same
-same-self [] = refl
-same-self (a ∷ x) = rw (eq-eqb a a refl, same-self x)
-
-pub same-is : (x y : List ℕ) → same x y ≡ true → x ≡ y
-unfolding same
-same-is [] [] e = refl
-same-is [] (b ∷ y) e = absurd (false-not-true e)
-same-is (a ∷ x) [] e = absurd (false-not-true e)
-same-is (a ∷ x) (b ∷ y) e =
-    let p = both-true (eqb a b) (same x y) e in
-    let q : a ≡ b = eqb-true a b (p .0) in
-    let r : x ≡ y = same-is x y (p .1) in
-    cc
-
 -- ---- names filled up with zeros
 
 abbrev pub isByte : ℕ → Bool

@@ -15,9 +15,10 @@ use Rattle.definitions.specs.Json.{all}
 use Rattle.definitions.specs.JsonForm.{same}
 use Rattle.definitions.specs.CallNames.{Slot, before, numberFor, isZero, untilZero, nameIn, slotIn, slotsIn, isNamed, badAt, firstBad, slotCount}
 use Rattle.json_theorems.proofs.Tests.{false-not-true, both-true}
-use Rattle.call_names.specs.Slots.{Good, compared, Kept, Prior, priorName, Answers, Called'}
+use Rattle.call_names.specs.Slots.{Good, compared, Kept, Prior, priorName, Answers, Called', isZero, untilZero, nameIn, slotIn, slotsIn, isNamed, badAt, firstBad, slotCount}
+use Rattle.json_theorems.proofs.Values.{same-true, same-self}
 use Rattle.call_names.specs.declared.Called.{Called}
-use Rattle.call_names.proofs.Ranks.{Before, before-is, before-trans, not-same, not-same-behind, same-self, same-is, isByte, is-before, Ranked, ranked-less, ranked-same, ranked-greater, rank, is-zero}
+use Rattle.call_names.proofs.Ranks.{Before, before-is, before-trans, not-same, not-same-behind, isByte, is-before, Ranked, ranked-less, ranked-same, ranked-greater, rank, is-zero}
 
 -- ---- bytes up to a zero
 
@@ -192,7 +193,7 @@ no-name k f (suc n) l = here k n l ∙ go (same (nameIn l) k) refl (no-name k f 
   where
     go : (t : Bool) → same (nameIn l) k ≡ t → numberFor (slotsIn n (drop 32 l)) k ≡ none
         → cond t (some (numberAt 4 l 28)) (numberFor (slotsIn n (drop 32 l)) k) ≡ none
-    go true e ih = absurd (f l (same-is (nameIn l) k e))
+    go true e ih = absurd (f l (same-true (nameIn l) k e))
     go false e ih = ih
 
 pub name-short : (l : List ℕ) → length (nameIn l) ≤ 28

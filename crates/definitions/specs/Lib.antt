@@ -18,3 +18,4 @@ pub mod Collected
 pub mod JsonReader
 pub mod FormReader
 pub mod FromJson
+pub mod NamedSets

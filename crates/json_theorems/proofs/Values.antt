@@ -253,6 +253,11 @@ same-true (x ∷ a) (y ∷ b) e =
     let p = both-true (eqb x y) (same a b) e in
     rw (eqb-true x y (p .0), same-true a b (p .1))
 
+pub same-self : (a : List ℕ) → same a a ≡ true
+unfolding same
+same-self [] = refl
+same-self (x ∷ a) = rw (eq-eqb x x refl, same-self a)
+
 literal-sound : (word : List ℕ) (w v : Json) (l rest : List ℕ) → Written word w → literalAt word w l ≡ got v rest → Any l v rest
 unfolding literalAt
 literal-sound word w v l rest wr e = go (same (take (length word) l) word) refl e

@@ -2,11 +2,11 @@
 use mathlib.Core.Path.{_≡_, refl, ap, sym, _∙_}
 use mathlib.Core.List.{List, [], _++_, append-assoc}
 use mathlib.Core.Option.{some}
-use Prim.Native.Nat.{ℕ, _+_, _-_, _^_, _≤_, _<_}
+use Prim.Native.Nat.{ℕ, _+_, _-_, _≤_}
 use native.Mathlib.Nat.{add-zero}
 use native.Mathlib.Omega.{arith}
 use lib.ListN.{length, drop, getD, length-append, length-drop}
-use lib.Seq.{drop-at, drop-drop, getD-drop}
+use lib.Seq.{drop-drop, getD-drop}
 use borrow.Author.Tests.{le-leb, eq-eqb, ne-eqb}
 use Rattle.definitions.specs.declared.Condition.{Condition}
 use Rattle.definitions.specs.Word.{bytesOf, numberAt}
@@ -16,23 +16,13 @@ use Rattle.definitions.specs.Parts.{conditionOf}
 use Rattle.definitions.specs.Writers.{headGood}
 use Rattle.definitions.specs.Readers.{reaches, headOf, atEntry, atRule, entryOf, ruleOf, conditionFrom, comparedOf}
 use Rattle.theorems.specs.Written.{HeadBack, EntryBack, RuleBack, ConditionBack, AllRead}
-use Rattle.theorems.proofs.Words.{length-bytes, number-front}
+use Rattle.theorems.proofs.Words.{length-bytes, drop-front, number-here-at, number-front-at}
 use Rattle.theorems.proofs.Taken.{action-small}
 use Rattle.theorems.proofs.Names.{width-back, operator-back, architecture-back, head-byte, mask-back}
 use Rattle.theorems.proofs.Forms.{length-condition, length-rule, length-entry, short-count, zeros-front, value-front, mask-front}
 use Rattle.readers.proofs.Readers.{condition-at}
 
 -- ---- what stands at a place
-
-drop-front : (s p t : List ℕ) (at n : ℕ) → drop at s ≡ p ++ t → length p ≡ n → drop (at + n) s ≡ t
-drop-front s p t at n e l = sym (drop-drop n at s) ∙ rw e (drop-at p t n l)
-
-number-here-at : (w x : ℕ) (s t : List ℕ) (at : ℕ) → drop at s ≡ bytesOf w x ++ t → x < 256 ^ w → numberAt w s at ≡ x
-unfolding numberAt
-number-here-at w x s t at e h = rw e (number-front w x t h)
-
-number-front-at : (w x : ℕ) (s p t : List ℕ) (at n : ℕ) → drop at s ≡ p ++ (bytesOf w x ++ t) → length p ≡ n → x < 256 ^ w → numberAt w s (at + n) ≡ x
-number-front-at w x s p t at n e l h = number-here-at w x s t (at + n) (drop-front s p (bytesOf w x ++ t) at n e l) h
 
 number-shift : (w : ℕ) (s : List ℕ) (at i : ℕ) → numberAt w s (at + i) ≡ numberAt w (drop at s) i
 unfolding numberAt

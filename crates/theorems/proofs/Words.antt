@@ -1,5 +1,5 @@
 -- Numbers written as bytes and read back, in place.
-use mathlib.Core.Path.{_≡_, refl, ap, sym}
+use mathlib.Core.Path.{_≡_, refl, ap, sym, _∙_}
 use mathlib.Core.List.{List, [], _∷_, _++_}
 use Prim.Native.Nat.{ℕ, zero, suc, _+_, _*_, _/_, _%_, _^_, _≤_, _<_}
 use native.Mathlib.Nat.{pow-suc, one-le-pow}
@@ -44,6 +44,18 @@ byte-here p t at e = let z : at ≡ at + 0 = omega arith in rw z (byte-past p t 
 pub number-front : (w x : ℕ) (q : List ℕ) → x < 256 ^ w → numberAt w (bytesOf w x ++ q) 0 ≡ x
 unfolding numberAt
 number-front w x q h = rw (take-at (bytesOf w x) q w (length-bytes w x)) (number-bytes w x h)
+
+-- ---- what stands at a place of bytes of which what is behind that place is known
+
+pub drop-front : (s p t : List ℕ) (at n : ℕ) → drop at s ≡ p ++ t → length p ≡ n → drop (at + n) s ≡ t
+drop-front s p t at n e l = sym (drop-drop n at s) ∙ rw e (drop-at p t n l)
+
+pub number-here-at : (w x : ℕ) (s t : List ℕ) (at : ℕ) → drop at s ≡ bytesOf w x ++ t → x < 256 ^ w → numberAt w s at ≡ x
+unfolding numberAt
+number-here-at w x s t at e h = rw e (number-front w x t h)
+
+pub number-front-at : (w x : ℕ) (s p t : List ℕ) (at n : ℕ) → drop at s ≡ p ++ (bytesOf w x ++ t) → length p ≡ n → x < 256 ^ w → numberAt w s (at + n) ≡ x
+number-front-at w x s p t at n e l h = number-here-at w x s t (at + n) (drop-front s p (bytesOf w x ++ t) at n e l) h
 
 -- ---- bytes read as a number write the same bytes again
 
