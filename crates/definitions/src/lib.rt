@@ -132,8 +132,6 @@ pub struct JsonAnswer {
     pub end: u32,
 }
 
-// Where a named set stands among bytes that are named sets: what became of looking for it (0: it is there), its name, its set, and the
-// place of the next one.
 // What walking through named sets gives: 0 with a named set's places and lengths and the place behind it, 1 for bytes that are not of the
 // form, 2 for no set. All places are offsets, and all numbers but the code are 0 where there is no set.
 #[repr(C)]
