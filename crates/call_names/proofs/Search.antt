@@ -15,7 +15,7 @@ use Rattle.definitions.specs.Json.{all}
 use Rattle.definitions.specs.JsonForm.{same}
 use Rattle.definitions.specs.CallNames.{Slot, before, numberFor, isZero, untilZero, nameIn, slotIn, slotsIn, isNamed, badAt, firstBad, slotCount}
 use Rattle.json_theorems.proofs.Tests.{false-not-true, both-true}
-use Rattle.call_names.specs.Slots.{Good, compared, Kept, Prior, priorName, Answers, Called', isZero, untilZero, nameIn, slotIn, slotsIn, isNamed, badAt, firstBad, slotCount}
+use Rattle.call_names.specs.Slots.{Good, compared, Kept, Prior, priorName, Answers, Called'}
 use Rattle.json_theorems.proofs.Values.{same-true, same-self}
 use Rattle.call_names.specs.declared.Called.{Called}
 use Rattle.call_names.proofs.Ranks.{Before, before-is, before-trans, not-same, not-same-behind, isByte, is-before, Ranked, ranked-less, ranked-same, ranked-greater, rank, is-zero}
