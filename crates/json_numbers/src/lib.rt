@@ -4,7 +4,7 @@ ghost use mathlib.Core.Bool.{_&&_, _||_, cond};
 ghost use mathlib.Core.List.{[], List};
 ghost use Prim.Native.Nat.{ℕ, suc, _+_, _*_, _-_, _≤_, _<_};
 ghost use lib.Dec.{eqb};
-ghost use lib.ListN.{length, drop, take, getD};
+ghost use lib.ListN.{length, drop, take};
 ghost use Rattle.definitions.specs.Json.{isDigit, number};
 ghost use Rattle.definitions.specs.JsonForm.{natural};
 ghost use Rattle.definitions.specs.JsonReader.{first, digitCount, signCount, wholeCount, fractionCount, exponentSign, exponentCount, numberCount};
@@ -23,17 +23,7 @@ pub struct Natural {
     pub value: u64,
 }
 
-// The byte at a place; zero at the end.
-fn byte(text: &[u8], at: usize) -> u8
-    ensures { λ r. ⌜ r ≡ getD (now (text .entry)) at 0 ⌝ }
-{
-    if at < text.len() {
-        return text[at];
-    }
-    0
-}
-
-fn is_digit(b: u8) -> bool
+pub fn is_digit(b: u8) -> bool
     ensures { λ r. ⌜ r ≡ isDigit b ⌝ }
 {
     if 48 <= b {
@@ -61,7 +51,7 @@ fn sign_count(text: &[u8], at: usize) -> usize
     requires { ⌜ at ≤ length (now text) ⌝ }
     ensures { λ r. ⌜ (r ≡ signCount (drop at (now (text .entry)))) × (at + r ≤ length (now (text .entry))) ⌝ }
 {
-    if byte(text, at) == 0x2d {
+    if json_scan::byte(text, at) == 0x2d {
         return 1;
     }
     0
@@ -71,7 +61,7 @@ fn whole_count(text: &[u8], at: usize) -> Part
     requires { ⌜ at ≤ length (now text) ⌝ }
     ensures { λ r. ⌜ Went (wholeCount (drop at (now (text .entry)))) 0 r × (at + r .n ≤ length (now (text .entry))) ⌝ }
 {
-    if byte(text, at) == 0x30 {
+    if json_scan::byte(text, at) == 0x30 {
         return Part { ok: true, n: 1 };
     }
     let n = digits(text, at);
@@ -85,7 +75,7 @@ fn fraction_count(text: &[u8], at: usize) -> Part
     requires { ⌜ at ≤ length (now text) ⌝ }
     ensures { λ r. ⌜ Went (fractionCount (drop at (now (text .entry)))) 1 r × (at + r .n ≤ length (now (text .entry))) ⌝ }
 {
-    if byte(text, at) != 0x2e {
+    if json_scan::byte(text, at) != 0x2e {
         return Part { ok: true, n: 0 };
     }
     let n = digits(text, at + 1);
@@ -108,7 +98,7 @@ fn exponent_sign(text: &[u8], at: usize) -> usize
     requires { ⌜ at ≤ length (now text) ⌝ }
     ensures { λ r. ⌜ (r ≡ exponentSign (drop at (now (text .entry)))) × (at + r ≤ length (now (text .entry))) ⌝ }
 {
-    let b = byte(text, at);
+    let b = json_scan::byte(text, at);
     if b == 0x2b {
         return 1;
     }
@@ -122,7 +112,7 @@ fn exponent_count(text: &[u8], at: usize) -> Part
     requires { ⌜ at ≤ length (now text) ⌝ }
     ensures { λ r. ⌜ Went (exponentCount (drop at (now (text .entry)))) (suc (exponentSign (drop 1 (drop at (now (text .entry)))))) r × (at + r .n ≤ length (now (text .entry))) ⌝ }
 {
-    if !is_exponent(byte(text, at)) {
+    if !is_exponent(json_scan::byte(text, at)) {
         return Part { ok: true, n: 0 };
     }
     let s = exponent_sign(text, at + 1);

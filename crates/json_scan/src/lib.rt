@@ -14,7 +14,7 @@ pub struct Place {
     pub at: usize,
 }
 
-fn both(a: bool, b: bool) -> bool
+pub fn both(a: bool, b: bool) -> bool
     ensures { λ r. ⌜ r ≡ (a && b) ⌝ }
 {
     if a {
@@ -23,7 +23,7 @@ fn both(a: bool, b: bool) -> bool
     false
 }
 
-fn either(a: bool, b: bool) -> bool
+pub fn either(a: bool, b: bool) -> bool
     ensures { λ r. ⌜ r ≡ (a || b) ⌝ }
 {
     if a {
@@ -32,14 +32,24 @@ fn either(a: bool, b: bool) -> bool
     b
 }
 
-fn within(least: u32, most: u32, b: u32) -> bool
+pub fn within(least: u32, most: u32, b: u32) -> bool
     ensures { λ r. ⌜ r ≡ text.within least most b ⌝ }
 {
     both(least <= b, b <= most)
 }
 
+// The byte at a place; zero at the end.
+pub fn byte(text: &[u8], at: usize) -> u8
+    ensures { λ r. ⌜ r ≡ getD (now (text .entry)) at 0 ⌝ }
+{
+    if at < text.len() {
+        return text[at];
+    }
+    0
+}
+
 // A byte as a wider number.
-fn wide(x: u8) -> u32
+pub fn wide(x: u8) -> u32
     ensures { λ r. ⌜ (r ≡ x) × (r < 256) ⌝ }
 {
     x as u32
@@ -67,7 +77,7 @@ pub fn skip_blanks(text: &[u8], from: usize) -> usize
 }
 
 // The value of a hexadecimal digit; 16 where it is none.
-fn digit_of(b: u8) -> u32
+pub fn digit_of(b: u8) -> u32
     ensures { λ r. ⌜ (r ≡ orElse 16 (text.hexDigit b)) × (r ≤ 16) ⌝ }
 {
     let x = wide(b);

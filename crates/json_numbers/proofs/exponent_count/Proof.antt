@@ -15,7 +15,7 @@ use Rattle.json_numbers.proofs.exponent_count.Statement.{statement}
 use Rattle.json_numbers.proofs.exponent_count.Tie as tie
 use Rattle.json_numbers.proofs.exponent_count.Reads as reads
 use Rattle.json_numbers.proofs.exponent_count.Lts as lts
-use Rattle.json_numbers.proofs.byte.Reads as byte-reads
+use Rattle.json_scan.proofs.byte.Reads as byte-reads
 use Rattle.json_numbers.proofs.digits.Reads as digits-reads
 use Rattle.json_numbers.proofs.exponent_sign.Reads as exponent-sign-reads
 use Rattle.json_numbers.proofs.is_exponent.Reads as is-exponent-reads

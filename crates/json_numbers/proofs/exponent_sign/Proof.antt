@@ -15,7 +15,7 @@ use Rattle.json_numbers.proofs.exponent_sign.Statement.{statement}
 use Rattle.json_numbers.proofs.exponent_sign.Tie as tie
 use Rattle.json_numbers.proofs.exponent_sign.Reads as reads
 use Rattle.json_numbers.proofs.exponent_sign.Lts as lts
-use Rattle.json_numbers.proofs.byte.Reads as byte-reads
+use Rattle.json_scan.proofs.byte.Reads as byte-reads
 
 -- src/lib.rt:111:9
 byte-requires : tie.Need-byte-requires

@@ -15,7 +15,7 @@ use Rattle.json_numbers.proofs.sign_count.Statement.{statement}
 use Rattle.json_numbers.proofs.sign_count.Tie as tie
 use Rattle.json_numbers.proofs.sign_count.Reads as reads
 use Rattle.json_numbers.proofs.sign_count.Lts as lts
-use Rattle.json_numbers.proofs.byte.Reads as byte-reads
+use Rattle.json_scan.proofs.byte.Reads as byte-reads
 
 -- src/lib.rt:64:8
 byte-requires : tie.Need-byte-requires
