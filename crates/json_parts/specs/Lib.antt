@@ -1,0 +1,3 @@
+pub mod Agreeing
+pub mod Kinds
+pub mod Words
