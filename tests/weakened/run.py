@@ -35,6 +35,7 @@ def below(crate):
 def without_examples(folder):
     for file in folder.glob("*Examples.antt"):
         file.unlink()
+    shutil.rmtree(folder / "Examples", ignore_errors=True)
     listing = folder / "Lib.antt"
     listing.write_text("".join(line + "\n" for line in listing.read_text().splitlines() if not line.endswith("Examples")))
 
@@ -46,7 +47,8 @@ def attempt(label, wanted):
     crates = below(crate)
     for name in crates:
         for part in ("src", "specs") if name == "definitions" else ("src", "specs", "proofs"):
-            shutil.copytree(root / "crates" / name / part, folder / "crates" / name / part)
+            if (root / "crates" / name / part).exists():
+                shutil.copytree(root / "crates" / name / part, folder / "crates" / name / part)
     without_examples(folder / "crates" / crate / "proofs")
     (folder / "crates.txt").write_text("".join(line + "\n" for line in crates.values()))
     own = here / f"{label}.edit"

@@ -18,4 +18,5 @@ pub mod Sizes
 pub mod Ranges
 pub mod Steady
 pub mod FromJson
+pub mod FromTheText
 pub mod Examples

@@ -28,7 +28,7 @@ pub data Within {A : Type 0} (l : List ℕ) : Got A → Type 0 where
   behind : (a : A) (rest : List ℕ) → length rest < length l → Within l (got a rest)
   faulty : (k : ℕ) (m : List ℕ) → length m ≤ length l → isFault k ≡ true → Within l (stop k m)
 
-within-longer : {A : Type 0} (l m : List ℕ) (g : Got A) → length l ≤ length m → Within l g → Within m g
+pub within-longer : {A : Type 0} (l m : List ℕ) (g : Got A) → length l ≤ length m → Within l g → Within m g
 within-longer l m _ h (behind a rest w) = behind a rest (omega arith)
 within-longer l m _ h (faulty k n w f) = faulty k n (omega arith) f
 
@@ -64,15 +64,15 @@ passes : (c : ℕ) (l : List ℕ) → 1 ≤ c → eqb (first l) c ≡ true → l
 passes c [] h e = absurd (let z = eqb-true 0 c e in omega arith)
 passes c (b ∷ l) h e = omega arith
 
-within-ended : {A : Type 0} (c : ℕ) → 1 ≤ c → (a : A) (l : List ℕ) → Within l (ended c a l)
+pub within-ended : {A : Type 0} (c : ℕ) → 1 ≤ c → (a : A) (l : List ℕ) → Within l (ended c a l)
 within-ended c h a l = within-cond l (eqb (first l) c) (got a (drop 1 l)) (stop notJson l) (λ e. behind a (drop 1 l) (passes c l h e)) (ten l)
 
 -- ---- strings and numbers
 
-drop-size : (n : ℕ) (l : List ℕ) → length (drop n l) ≤ length l
+pub drop-size : (n : ℕ) (l : List ℕ) → length (drop n l) ≤ length l
 drop-size n l = omega (arith, length-drop n l)
 
-within-characters : (n : ℕ) (l : List ℕ) → Within l (characters n l)
+pub within-characters : (n : ℕ) (l : List ℕ) → Within l (characters n l)
 unfolding characters
 within-characters zero l = ten l
 within-characters (suc n) l =
@@ -82,15 +82,16 @@ within-characters (suc n) l =
     piece none ih = ten l
     piece (some p) ih = within-follow l (characters n (drop (p .used) l)) (λ s rest. got (p .meant ++ s) rest) (within-longer (drop (p .used) l) l (characters n (drop (p .used) l)) (drop-size (p .used) l) (ih (drop (p .used) l))) (λ s m h. behind (p .meant ++ s) m h)
 
-within-string : (l : List ℕ) → Within l (placed badCharacter (stringAt l))
-unfolding stringAt badCharacter
-within-string l = go (characters (length l) l) (within-characters (length l) l)
-  where
-    go : (g : Got (List ℕ)) → Within l g → Within l (placed badCharacter g)
-    go _ (behind s rest w) = behind s rest w
-    go _ (faulty k m w f) =
-        let n : ℕ = cond (eqb (first m) backslash) (escapeBad m) (plainBad m) in
-        faulty k (drop n m) (omega (arith, drop-size n m)) f
+pub within-placed : (l : List ℕ) (g : Got (List ℕ)) → Within l g → Within l (placed badCharacter g)
+unfolding badCharacter
+within-placed l _ (behind s rest w) = behind s rest w
+within-placed l _ (faulty k m w f) =
+    let n : ℕ = cond (eqb (first m) backslash) (escapeBad m) (plainBad m) in
+    faulty k (drop n m) (omega (arith, drop-size n m)) f
+
+pub within-string : (l : List ℕ) → Within l (placed badCharacter (stringAt l))
+unfolding stringAt
+within-string l = within-placed l (characters (length l) l) (within-characters (length l) l)
 
 bad-number : (l : List ℕ) → length (badNumber l) ≤ length l
 unfolding badNumber
@@ -107,7 +108,7 @@ bad-number l = go (wholeCount (drop (signCount l) l))
 -- ---- keys, members and values
 
 -- a number that judges: none, or that of a fault
-abbrev Judged : ℕ → Type 0
+abbrev pub Judged : ℕ → Type 0
 Judged k = (k ≡ 0 → ⊥) → isFault k ≡ true
 
 within-unless : {A : Type 0} (k : ℕ) → Judged k → (l : List ℕ) (a : A) (rest : List ℕ) → length rest < length l → Within l (unless k l a rest)
@@ -121,7 +122,7 @@ within-unless k j l a rest h = go (eqb k 0) refl
 within-blanks : {A : Type 0} (l : List ℕ) (g : Got A) → Within (blanks l) g → Within l g
 within-blanks l g w = within-longer (blanks l) l g (blanks-size l) w
 
-within-key : (judge : List ℕ → ℕ) → ((k : List ℕ) → Judged (judge k)) → (l : List ℕ) → Within l (keyAt judge l)
+pub within-key : (judge : List ℕ → ℕ) → ((k : List ℕ) → Judged (judge k)) → (l : List ℕ) → Within l (keyAt judge l)
 unfolding keyAt
 within-key judge ok l =
     within-cond l (eqb (first l) quote) _ _ (λ e.
@@ -141,25 +142,25 @@ within-turn l c pos g go w ih =
 
 module _ {P : Type 0} (judge : P → List ℕ → ℕ) (ok : (p : P) (k : List ℕ) → Judged (judge p k)) (step : P → List ℕ → List ℕ → Got P)
     (steady : (p : P) (k l : List ℕ) → Within l (step p k l)) where
-  within-fields : (n : ℕ) (p : P) (l : List ℕ) → Within l (fields judge step n p l)
+  pub within-fields : (n : ℕ) (p : P) (l : List ℕ) → Within l (fields judge step n p l)
   unfolding fields
   within-fields zero p l = ten l
   within-fields (suc n) p l =
       within-follow l (keyAt (judge p) (blanks l)) _ (within-blanks l _ (within-key (judge p) (ok p) (blanks l))) (λ k behind h.
       within-longer behind l _ (omega arith) (within-turn behind 0x7d (omega arith) (step p k behind) (fields judge step n) (steady p k behind) (within-fields n)))
 
-  within-object : (p : P) (l : List ℕ) → Within l (objectAt judge step p l)
+  pub within-object : (p : P) (l : List ℕ) → Within l (objectAt judge step p l)
   unfolding objectAt
   within-object p l =
       within-cond l (eqb (first (blanks l)) 0x7d) _ _ (λ e. behind p (drop 1 (blanks l)) (omega (arith, passes 0x7d (blanks l) (omega arith) e, blanks-size l))) (within-fields (length l) p l)
 
 module _ {P : Type 0} (step : P → List ℕ → Got P) (steady : (p : P) (l : List ℕ) → Within l (step p l)) where
-  within-items : (n : ℕ) (p : P) (l : List ℕ) → Within l (items step n p l)
+  pub within-items : (n : ℕ) (p : P) (l : List ℕ) → Within l (items step n p l)
   unfolding items
   within-items zero p l = ten l
   within-items (suc n) p l = within-turn l 0x5d (omega arith) (step p (blanks l)) (items step n) (within-blanks l _ (steady p (blanks l))) (within-items n)
 
-  within-array : (p : P) (l : List ℕ) → Within l (arrayAt step p l)
+  pub within-array : (p : P) (l : List ℕ) → Within l (arrayAt step p l)
   unfolding arrayAt
   within-array p l =
       within-cond l (eqb (first (blanks l)) 0x5d) _ _ (λ e. behind p (drop 1 (blanks l)) (omega (arith, passes 0x5d (blanks l) (omega arith) e, blanks-size l))) (within-items (length l) p l)
