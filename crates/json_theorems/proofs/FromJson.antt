@@ -26,7 +26,8 @@ use Rattle.json_theorems.proofs.Sets.{sets-sound, sets-complete}
 use Rattle.json_theorems.proofs.Passes.{Adds, adds-upstream}
 use Rattle.json_theorems.proofs.Sizes.{Shrinks, shrinks-upstream, meant-size}
 use Rattle.json_theorems.proofs.Ranges.{meant-compile}
-use Rattle.json_theorems.proofs.Steady.{isFault, read-stops}
+use Rattle.json_theorems.proofs.Closed.{isFault}
+use Rattle.json_theorems.proofs.Steady.{read-stops}
 
 -- rules are put together as upstream does
 now-adds : Adds (now .join)

@@ -16,7 +16,11 @@ pub mod Passes
 pub mod Turns
 pub mod Sizes
 pub mod Ranges
+pub mod Closed
 pub mod Steady
+pub mod Pieces
+pub mod NumberParts
+pub mod Early
 pub mod FromJson
 pub mod FromTheText
 pub mod Examples

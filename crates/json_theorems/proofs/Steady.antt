@@ -1,28 +1,24 @@
 -- The form's reader stays within the text: what is behind a part is shorter than what the part begins with, and a fault is told by one of the numbers
 -- of faults, at a place of the text. Assumes nothing.
 use mathlib.Core.Path.{_≡_, refl, subst}
-use mathlib.Core.Bool.{Bool, true, false, cond, not, _&&_, _||_}
+use mathlib.Core.Bool.{Bool, true, false, cond, _||_}
 use mathlib.Core.List.{List, [], _∷_, _++_}
 use mathlib.Core.Option.{Option, none, some}
-use Prim.Native.Nat.{ℕ, zero, suc, _+_, _-_, _^_, _≤_, _<_}
+use Prim.Native.Nat.{ℕ, zero, suc, _+_, _≤_, _<_}
 use native.Mathlib.Omega.{arith}
-use lib.Dec.{eqb, leb}
+use lib.Dec.{eqb}
 use lib.ListN.{length, take, drop, length-drop}
 use borrow.Author.Tests.{eqb-true, eqb-false}
 use Rattle.definitions.specs.RuleSet.{oneOf}
-use Rattle.definitions.specs.Format.{then, check}
-use Rattle.definitions.specs.Json.{ascii, quote, backslash, all, isDigit, null}
-use Rattle.definitions.specs.JsonForm.{same, decimal, fieldOf, Key, conditionKeys, lineKeys, filterKeys, named, Filter}
+use Rattle.definitions.specs.Json.{ascii, quote, backslash, isDigit, null}
+use Rattle.definitions.specs.JsonForm.{same, Filter}
 use Rattle.definitions.specs.JsonReader.{Got, got, stop, notJson, follow, first, blanks, ended, unless, Piece, character, onPiece, characters, stringAt, placed, badCharacter, escapeBad, plainBad, badNumber, badWhole, badFraction, wholeCount, fractionCount, exponentSign, signCount, numberCount, keyAt, fields, objectAt, items, arrayAt, literalAt, apart}
-use Rattle.definitions.specs.FormReader.{notOfForm, wrong, stringThere, onNumber, numberThere, numberText, objectThere, arrayThere, behindKey, equalActions, emptyArgs, wrongIndex, tooWide, givenTwice, unknownCall, Judges, Verdict, fine, begun, closing, answered, judged, asked, made, ending, putIn, naturalThere, wordThere, listThere, nullOr, eitherThere, Held, held, orRefused, oneJudge, oneStep, oneEnd, oneThere, Typed, typed, hasTyped, valueOf, fieldJudge, fieldReader, keyedThere, actionThere, operatorThere, conditionFrom, conditionReads, conditionThere, lineFrom, lineReads, lineThere, filterFrom, filterReads, filterThere, filtersThere, allRead, whole, readFilters}
+use Rattle.definitions.specs.FormReader.{notOfForm, wrong, stringThere, onNumber, numberThere, numberText, objectThere, arrayThere, behindKey, Judges, Verdict, fine, begun, closing, answered, judged, putIn, nullOr, eitherThere, filtersThere, allRead, whole, readFilters}
 use Rattle.json_theorems.proofs.Faith.{number-faithful}
+use Rattle.json_theorems.proofs.Closed.{isRefusal, isFault, eleven-refusal, Judged, Fair, filters-closed}
 use Rattle.json_theorems.proofs.Sizes.{blanks-size, reader-one}
 
 -- ---- what came of a part that began with l
-
--- the numbers of faults in a text
-abbrev pub isFault : ℕ → Bool
-isFault = oneOf (3 ∷ 4 ∷ 5 ∷ 8 ∷ 10 ∷ 11 ∷ 12 ∷ 13 ∷ [])
 
 pub data Within {A : Type 0} (l : List ℕ) : Got A → Type 0 where
   behind : (a : A) (rest : List ℕ) → length rest < length l → Within l (got a rest)
@@ -44,16 +40,19 @@ ten-fault : isFault notJson ≡ true
 unfolding oneOf
 ten-fault = refl
 
-eleven-fault : isFault notOfForm ≡ true
-unfolding oneOf
-eleven-fault = refl
+refusal-fault : (k : ℕ) → isRefusal k ≡ true → isFault k ≡ true
+refusal-fault k e = go (eqb k notJson)
+  where
+    go : (t : Bool) → (t || isRefusal k) ≡ true
+    go true = refl
+    go false = e
 
 wrong-fault : (l : List ℕ) → isFault (wrong l) ≡ true
 unfolding wrong
 wrong-fault l = go (eqb (first l) quote || (eqb (first l) 0x7b || (eqb (first l) 0x5b || (eqb (first l) 0x2d || (isDigit (first l) || (eqb (first l) 0x6e || (eqb (first l) 0x74 || eqb (first l) 0x66)))))))
   where
     go : (t : Bool) → isFault (cond t notOfForm notJson) ≡ true
-    go true = eleven-fault
+    go true = refusal-fault notOfForm eleven-refusal
     go false = ten-fault
 
 ten : {A : Type 0} (l : List ℕ) → Within {A = A} l (stop notJson l)
@@ -107,19 +106,15 @@ bad-number l = go (wholeCount (drop (signCount l) l))
 
 -- ---- keys, members and values
 
--- a number that judges: none, or that of a fault
-abbrev pub Judged : ℕ → Type 0
-Judged k = (k ≡ 0 → ⊥) → isFault k ≡ true
-
 within-unless : {A : Type 0} (k : ℕ) → Judged k → (l : List ℕ) (a : A) (rest : List ℕ) → length rest < length l → Within l (unless k l a rest)
 within-unless k j l a rest h = go (eqb k 0) refl
   where
     go : (t : Bool) → eqb k 0 ≡ t → Within l (cond t (got a rest) (stop k l))
     go true e = behind a rest h
-    go false e = faulty k l (omega arith) (j (eqb-false k 0 e))
+    go false e = faulty k l (omega arith) (refusal-fault k (j (eqb-false k 0 e)))
 
 -- what begins behind blanks
-within-blanks : {A : Type 0} (l : List ℕ) (g : Got A) → Within (blanks l) g → Within l g
+pub within-blanks : {A : Type 0} (l : List ℕ) (g : Got A) → Within (blanks l) g → Within l g
 within-blanks l g w = within-longer (blanks l) l g (blanks-size l) w
 
 pub within-key : (judge : List ℕ → ℕ) → ((k : List ℕ) → Judged (judge k)) → (l : List ℕ) → Within l (keyAt judge l)
@@ -142,12 +137,23 @@ within-turn l c pos g go w ih =
 
 module _ {P : Type 0} (judge : P → List ℕ → ℕ) (ok : (p : P) (k : List ℕ) → Judged (judge p k)) (step : P → List ℕ → List ℕ → Got P)
     (steady : (p : P) (k l : List ℕ) → Within l (step p k l)) where
+  fields-next : (n : ℕ) (p : P) (l : List ℕ) → ((q : P) (m : List ℕ) → Within m (fields judge step n q m)) → Within (blanks l) (fields judge step (suc n) p l)
+  unfolding fields
+  fields-next n p l ih =
+      within-follow (blanks l) (keyAt (judge p) (blanks l)) _ (within-key (judge p) (ok p) (blanks l)) (λ k behind h.
+      within-longer behind (blanks l) _ (omega arith) (within-turn behind 0x7d (omega arith) (step p k behind) (fields judge step n) (steady p k behind) ih))
+
   pub within-fields : (n : ℕ) (p : P) (l : List ℕ) → Within l (fields judge step n p l)
   unfolding fields
   within-fields zero p l = ten l
-  within-fields (suc n) p l =
-      within-follow l (keyAt (judge p) (blanks l)) _ (within-blanks l _ (within-key (judge p) (ok p) (blanks l))) (λ k behind h.
-      within-longer behind l _ (omega arith) (within-turn behind 0x7d (omega arith) (step p k behind) (fields judge step n) (steady p k behind) (within-fields n)))
+  within-fields (suc n) p l = within-blanks l (fields judge step (suc n) p l) (fields-next n p l (within-fields n))
+
+  -- what stands in front of it is not looked at again
+  pub object-next : (p : P) (b : ℕ) (l : List ℕ) → Within (blanks (b ∷ l)) (objectAt judge step p (b ∷ l))
+  unfolding objectAt
+  object-next p b l =
+      within-cond (blanks (b ∷ l)) (eqb (first (blanks (b ∷ l))) 0x7d) _ _ (λ e. behind p (drop 1 (blanks (b ∷ l))) (passes 0x7d (blanks (b ∷ l)) (omega arith) e))
+      (fields-next (length l) p (b ∷ l) (within-fields (length l)))
 
   pub within-object : (p : P) (l : List ℕ) → Within l (objectAt judge step p l)
   unfolding objectAt
@@ -155,10 +161,20 @@ module _ {P : Type 0} (judge : P → List ℕ → ℕ) (ok : (p : P) (k : List �
       within-cond l (eqb (first (blanks l)) 0x7d) _ _ (λ e. behind p (drop 1 (blanks l)) (omega (arith, passes 0x7d (blanks l) (omega arith) e, blanks-size l))) (within-fields (length l) p l)
 
 module _ {P : Type 0} (step : P → List ℕ → Got P) (steady : (p : P) (l : List ℕ) → Within l (step p l)) where
+  items-next : (n : ℕ) (p : P) (l : List ℕ) → ((q : P) (m : List ℕ) → Within m (items step n q m)) → Within (blanks l) (items step (suc n) p l)
+  unfolding items
+  items-next n p l ih = within-turn (blanks l) 0x5d (omega arith) (step p (blanks l)) (items step n) (steady p (blanks l)) ih
+
   pub within-items : (n : ℕ) (p : P) (l : List ℕ) → Within l (items step n p l)
   unfolding items
   within-items zero p l = ten l
-  within-items (suc n) p l = within-turn l 0x5d (omega arith) (step p (blanks l)) (items step n) (within-blanks l _ (steady p (blanks l))) (within-items n)
+  within-items (suc n) p l = within-blanks l (items step (suc n) p l) (items-next n p l (within-items n))
+
+  pub array-next : (p : P) (b : ℕ) (l : List ℕ) → Within (blanks (b ∷ l)) (arrayAt step p (b ∷ l))
+  unfolding arrayAt
+  array-next p b l =
+      within-cond (blanks (b ∷ l)) (eqb (first (blanks (b ∷ l))) 0x5d) _ _ (λ e. behind p (drop 1 (blanks (b ∷ l))) (passes 0x5d (blanks (b ∷ l)) (omega arith) e))
+      (items-next (length l) p (b ∷ l) (within-items (length l)))
 
   pub within-array : (p : P) (l : List ℕ) → Within l (arrayAt step p l)
   unfolding arrayAt
@@ -174,11 +190,11 @@ pub record Steady {A : Type 0} (r : List ℕ → Got A) : Type 0 where
 begun-by : {A : Type 0} (t : Bool) (l : List ℕ) (g : Got A) → (t ≡ true → Within l g) → Within l (cond t g (stop (wrong l) l))
 begun-by t l g w = within-cond l t g (stop (wrong l) l) w (faulty (wrong l) l (omega arith) (wrong-fault l))
 
-steady-string : Steady stringThere
+pub steady-string : Steady stringThere
 unfolding stringThere
 steady-string = record { within = λ l. begun-by (eqb (first l) quote) l _ (λ e. within-longer (drop 1 l) l _ (drop-size 1 l) (within-string (drop 1 l))) }
 
-steady-number : Steady numberThere
+pub steady-number : Steady numberThere
 unfolding numberThere
 steady-number = record { within = λ l. begun-by (eqb (first l) 0x2d || isDigit (first l)) l _ (λ e. on l (numberCount l) (λ n is. some-digit l n e is)) }
   where
@@ -191,61 +207,34 @@ steady-number = record { within = λ l. begun-by (eqb (first l) 0x2d || isDigit 
     on l none h = faulty notJson (badNumber l) (bad-number l) ten-fault
     on l (some n) h = behind (take n l) (drop n l) (h n refl)
 
--- a verdict that refuses by the number of a fault
-abbrev pub Fair : {B : Type 0} → Verdict B → Type 0
-Fair (fine b) = Unit {0}
-Fair (begun k) = isFault k ≡ true
-Fair (closing k) = isFault k ≡ true
-
 module _ {A B : Type 0} (r : List ℕ → Got A) (steady : Steady r) where
-  steady-judged : (g : A → Verdict B) → ((a : A) → Fair (g a)) → Steady (judged g r)
+  pub steady-judged : (g : A → Verdict B) → ((a : A) → Fair (g a)) → Steady (judged g r)
   unfolding judged
   steady-judged g fair = record { within = λ l. within-follow l (r l) _ (steady .within l) (λ a m h. say (g a) (fair a) l m h) }
     where
       say : (v : Verdict B) → Fair v → (l m : List ℕ) → length m < length l → Within l (answered v l m)
       say (fine b) f l m h = behind b m h
-      say (begun k) f l m h = faulty k l (omega arith) f
-      say (closing k) f l m h = faulty k (0x7d ∷ m) (omega arith) f
+      say (begun k) f l m h = faulty k l (omega arith) (refusal-fault k f)
+      say (closing k) f l m h = faulty k (0x7d ∷ m) (omega arith) (refusal-fault k f)
 
-  steady-put : (add : A → B) → Steady (putIn add r)
+  pub steady-put : (add : A → B) → Steady (putIn add r)
   steady-put add = record { within = λ l. within-follow l (r l) _ (steady .within l) (λ a m h. behind (add a) m h) }
 
-steady-none : {A : Type 0} → Steady (behindKey {P = A} none)
-steady-none = record { within = λ l. faulty notOfForm l (omega arith) eleven-fault }
+pub steady-none : {A : Type 0} → Steady (behindKey {P = A} none)
+steady-none = record { within = λ l. faulty notOfForm l (omega arith) (refusal-fault notOfForm eleven-refusal) }
 
-steady-asked : {A : Type 0} (r : List ℕ → Got A) → Steady r → (t : A → Bool) (k : ℕ) → isFault k ≡ true → Steady (judged (λ a. asked (t a) k a) r)
-steady-asked {A} r s t k f = steady-judged r s (λ a. asked (t a) k a) (λ a. by (t a) a)
-  where
-    by : (b : Bool) (a : A) → Fair (asked b k a)
-    by true a = tt
-    by false a = f
-
-steady-made : {A B : Type 0} (r : List ℕ → Got A) → Steady r → (g : A → Option B) → Steady (judged (λ a. made (g a)) r)
-steady-made {A} {B} r s g = steady-judged r s (λ a. made (g a)) (λ a. by (g a))
-  where
-    by : (o : Option B) → Fair (made o)
-    by none = eleven-fault
-    by (some b) = tt
-
-steady-ending : {A B : Type 0} (r : List ℕ → Got A) → Steady r → (g : A → Option B) → Steady (judged (λ a. ending (g a)) r)
-steady-ending {A} {B} r s g = steady-judged r s (λ a. ending (g a)) (λ a. by (g a))
-  where
-    by : (o : Option B) → Fair (ending o)
-    by none = eleven-fault
-    by (some b) = tt
-
-steady-object : {P : Type 0} (judge : P → List ℕ → ℕ) → ((p : P) (k : List ℕ) → Judged (judge p k)) → (step : P → List ℕ → List ℕ → Got P)
+pub steady-object : {P : Type 0} (judge : P → List ℕ → ℕ) → ((p : P) (k : List ℕ) → Judged (judge p k)) → (step : P → List ℕ → List ℕ → Got P)
     → ((p : P) (k : List ℕ) → Steady (step p k)) → (p : P) → Steady (objectThere judge step p)
 unfolding objectThere
 steady-object judge ok step s p =
     record { within = λ l. begun-by (eqb (first l) 0x7b) l _ (λ e. within-longer (drop 1 l) l _ (drop-size 1 l) (within-object judge ok step (λ q k m. s q k .within m) p (drop 1 l))) }
 
-steady-array : {P : Type 0} (step : P → List ℕ → Got P) → ((p : P) → Steady (step p)) → (p : P) → Steady (arrayThere step p)
+pub steady-array : {P : Type 0} (step : P → List ℕ → Got P) → ((p : P) → Steady (step p)) → (p : P) → Steady (arrayThere step p)
 unfolding arrayThere
 steady-array step s p =
     record { within = λ l. begun-by (eqb (first l) 0x5b) l _ (λ e. within-longer (drop 1 l) l _ (drop-size 1 l) (within-array step (λ q m. s q .within m) p (drop 1 l))) }
 
-apart-size : (word l : List ℕ) → length (apart word l) ≤ length l
+pub apart-size : (word l : List ℕ) → length (apart word l) ≤ length l
 unfolding apart
 apart-size [] l = omega arith
 apart-size (a ∷ word) [] = omega arith
@@ -255,7 +244,7 @@ apart-size (a ∷ word) (b ∷ l) = go (eqb a b) (apart-size word l)
     go true h = omega arith
     go false h = omega arith
 
-steady-null : {A : Type 0} (r : List ℕ → Got A) → Steady r → Steady (nullOr r)
+pub steady-null : {A : Type 0} (r : List ℕ → Got A) → Steady r → Steady (nullOr r)
 unfolding nullOr literalAt ascii
 steady-null {A} r s =
     record { within = λ l. within-cond l (eqb (first l) 0x6e) _ _ (λ e. within-follow l (literalAt (ascii "null") null l) _ (word l e) (λ v m h. behind none m h)) (steady-put r s (λ a. some a) .within l) }
@@ -266,138 +255,33 @@ steady-null {A} r s =
         within-cond l (same (take 4 l) (ascii "null")) _ _ (λ f. behind null (drop 4 l) (omega (arith, passes 0x6e l (omega arith) e, length-drop 4 l)))
         (faulty notJson (apart (ascii "null") l) (apart-size (ascii "null") l) ten-fault)
 
-steady-either : {A : Type 0} (r s : List ℕ → Got A) → Steady r → Steady s → Steady (eitherThere r s)
+pub steady-either : {A : Type 0} (r s : List ℕ → Got A) → Steady r → Steady s → Steady (eitherThere r s)
 unfolding eitherThere
 steady-either r s a b = record { within = λ l. within-cond l (eqb (first l) quote) (r l) (s l) (λ e. a .within l) (b .within l) }
 
--- ---- the form's readers
+-- the form's reader
+pub steady-filters : (j : Judges) → Steady (filtersThere j)
+steady-filters = filters-closed (λ A r. Steady r) (record {
+  string = steady-string;
+  number = steady-number;
+  judge = λ r s g f. steady-judged r s g f;
+  put = λ r s add. steady-put r s add;
+  refused = steady-none;
+  object = steady-object;
+  array = steady-array;
+  orNull = steady-null;
+  either = steady-either;
+})
 
-steady-natural : (most : ℕ) → Steady (naturalThere most)
-unfolding naturalThere
-steady-natural most = steady-made numberThere steady-number (λ t. check (all isDigit t && leb (decimal 0 t) most) (some (decimal 0 t)))
-
-steady-word : {A : Type 0} (g : List ℕ → Option A) → Steady (wordThere g)
-unfolding wordThere
-steady-word g = steady-made stringThere steady-string g
-
-steady-list : {A : Type 0} (r : List ℕ → Got A) → Steady r → Steady (listThere r)
-unfolding listThere
-steady-list r s = steady-array _ (λ xs. steady-put r s (λ a. xs ++ (a ∷ []))) []
-
-fault-of : (k : ℕ) → isFault k ≡ true → Judged k
-fault-of k e = λ n. e
-
-twice-fault : (t : Bool) → Judged (cond t givenTwice 0)
-unfolding oneOf
-twice-fault true = λ n. refl
-twice-fault false = λ n. absurd (n refl)
-
-steady-one : {A B : Type 0} (known : List ℕ → Option A) (reads : A → List ℕ → Got B) → ((w : A) → Steady (reads w)) → Steady (oneThere known reads)
-unfolding oneThere
-steady-one {A} {B} known reads s = steady-ending _ (steady-object (oneJudge known) ok (oneStep known reads) step none) oneEnd
+-- what is refused in a text is refused by the number of a fault
+pub read-stops : (j : Judges) (t : List ℕ) (k : ℕ) (m : List ℕ) → readFilters j t ≡ stop k m → isFault k ≡ true
+unfolding readFilters whole
+read-stops j t k m e = go (filtersThere j (blanks t)) (steady-filters j .within (blanks t)) e
   where
-    ok : (p : Option (Held B)) (k : List ℕ) → Judged (oneJudge known p k)
-    ok none k = by (known k)
-      where
-        by : (o : Option A) → Judged (orRefused o)
-        by none = fault-of notOfForm eleven-fault
-        by (some a) = λ n. absurd (n refl)
-    ok (some h) k = by (same (h .key) k)
-      where
-        by : (t : Bool) → Judged (cond t givenTwice notOfForm)
-        by true = twice-fault true
-        by false = fault-of notOfForm eleven-fault
+    rest : (a : List Filter) (l : List ℕ) → allRead a l ≡ stop k m → isFault k ≡ true
+    rest a [] x = absurd (let z : _≡_ {A = ℕ} 0 1 = cc in omega arith)
+    rest a (b ∷ l) x = let ek : notJson ≡ k = cc in subst (λ (i : ℕ). isFault i ≡ true) ek ten-fault
 
-    step : (p : Option (Held B)) (k : List ℕ) → Steady (oneStep known reads p k)
-    step (some h) k = steady-none
-    step none k = by (known k)
-      where
-        by : (o : Option A) → Steady (behindKey (then o (λ w. some (putIn (λ b. some (held k b)) (reads w)))))
-        by none = steady-none
-        by (some w) = steady-put (reads w) (s w) (λ b. some (held k b))
-
-steady-keyed : {A B : Type 0} (keys : List Key) (reads : ℕ → List ℕ → Got A) (whole : (ℕ → Option (Option A)) → Option B) → ((f : ℕ) → Steady (reads f)) → Steady (keyedThere keys reads whole)
-unfolding keyedThere
-steady-keyed {A} keys reads whole s =
-    steady-ending _ (steady-object (λ ts k. fieldJudge ts (fieldOf keys k)) (λ ts k. ok ts (fieldOf keys k)) (λ ts k. behindKey (fieldReader reads ts (fieldOf keys k))) (λ ts k. step ts (fieldOf keys k)) []) (λ ts. whole (λ f. some (valueOf f ts)))
-  where
-    ok : (ts : List (Typed A)) (o : Option ℕ) → Judged (fieldJudge ts o)
-    ok ts none = fault-of notOfForm eleven-fault
-    ok ts (some f) = twice-fault (hasTyped f ts)
-
-    step : (ts : List (Typed A)) (o : Option ℕ) → Steady (behindKey (fieldReader reads ts o))
-    step ts none = steady-none
-    step ts (some f) = by (hasTyped f ts)
-      where
-        by : (t : Bool) → Steady (behindKey (check (not t) (some (putIn (λ a. typed f a ∷ ts) (reads f)))))
-        by true = steady-none
-        by false = steady-put (reads f) (s f) (λ a. typed f a ∷ ts)
-
-steady-action : Steady actionThere
-unfolding actionThere
-steady-action = steady-either _ _ (steady-word _) (steady-one _ _ (λ w. steady-put _ (steady-natural (2 ^ 32 - 1)) _))
-
-steady-operator : Steady operatorThere
-unfolding operatorThere
-steady-operator = steady-either _ _ (steady-word _) (steady-one _ _ (λ w. steady-put _ (steady-natural (2 ^ 64 - 1)) _))
-
-steady-comment : Steady (nullOr stringThere)
-steady-comment = steady-null stringThere steady-string
-
-module _ (j : Judges) where
-  steady-condition-reads : (f : ℕ) → Steady (conditionReads j f)
-  unfolding oneOf
-  steady-condition-reads zero = steady-put _ (steady-asked _ (steady-natural 255) (j .index) wrongIndex refl) _
-  steady-condition-reads (suc zero) = steady-put _ (steady-word _) _
-  steady-condition-reads (suc (suc zero)) = steady-put _ steady-operator _
-  steady-condition-reads (suc (suc (suc zero))) = steady-put _ (steady-natural (2 ^ 64 - 1)) _
-  steady-condition-reads (suc (suc (suc (suc zero)))) = steady-put _ steady-comment _
-  steady-condition-reads (suc (suc (suc (suc (suc n))))) = steady-none
-
-  steady-condition : Steady (conditionThere j)
-  unfolding conditionThere oneOf
-  steady-condition = steady-asked _ (steady-keyed conditionKeys (conditionReads j) conditionFrom steady-condition-reads) (j .fits) tooWide refl
-
-  steady-line-reads : (f : ℕ) → Steady (lineReads j f)
-  unfolding oneOf
-  steady-line-reads zero = steady-put _ (steady-asked _ steady-string (j .known) unknownCall refl) _
-  steady-line-reads (suc zero) = steady-put _ (steady-null _ (steady-asked _ (steady-list (conditionThere j) steady-condition) (j .filled) emptyArgs refl)) _
-  steady-line-reads (suc (suc zero)) = steady-put _ steady-comment _
-  steady-line-reads (suc (suc (suc n))) = steady-none
-
-  steady-line : Steady (lineThere j)
-  unfolding lineThere
-  steady-line = steady-keyed lineKeys (lineReads j) lineFrom steady-line-reads
-
-  steady-filter-reads : (f : ℕ) → Steady (filterReads j f)
-  steady-filter-reads zero = steady-put _ steady-action _
-  steady-filter-reads (suc zero) = steady-put _ steady-action _
-  steady-filter-reads (suc (suc zero)) = steady-put _ (steady-list (lineThere j) steady-line) _
-  steady-filter-reads (suc (suc (suc n))) = steady-none
-
-  steady-filter : (name : List ℕ) → Steady (filterThere j name)
-  unfolding filterThere oneOf
-  steady-filter name = steady-asked _ (steady-keyed filterKeys (filterReads j) (filterFrom name) steady-filter-reads) (λ f. j .differ (f .mismatch) (f .onMatch)) equalActions refl
-
-  steady-filters : Steady (filtersThere j)
-  unfolding filtersThere
-  steady-filters =
-      steady-object (λ fs k. cond (named k fs) givenTwice 0) (λ fs k. twice-fault (named k fs)) (λ fs k. behindKey (check (not (named k fs)) (some (putIn (λ f. fs ++ (f ∷ [])) (filterThere j k)))))
-      (λ fs k. step fs k (named k fs)) []
-    where
-      step : (fs : List Filter) (k : List ℕ) (t : Bool) → Steady (behindKey (check (not t) (some (putIn (λ f. fs ++ (f ∷ [])) (filterThere j k)))))
-      step fs k true = steady-none
-      step fs k false = steady-put _ (steady-filter k) (λ f. fs ++ (f ∷ []))
-
-  -- what is refused in a text is refused by the number of a fault
-  pub read-stops : (t : List ℕ) (k : ℕ) (m : List ℕ) → readFilters j t ≡ stop k m → isFault k ≡ true
-  unfolding readFilters whole
-  read-stops t k m e = go (filtersThere j (blanks t)) (steady-filters .within (blanks t)) e
-    where
-      rest : (a : List Filter) (l : List ℕ) → allRead a l ≡ stop k m → isFault k ≡ true
-      rest a [] x = absurd (let z : _≡_ {A = ℕ} 0 1 = cc in omega arith)
-      rest a (b ∷ l) x = let ek : notJson ≡ k = cc in subst (λ (i : ℕ). isFault i ≡ true) ek ten-fault
-
-      go : (g : Got (List Filter)) → Within (blanks t) g → follow g (λ a l. allRead a (blanks l)) ≡ stop k m → isFault k ≡ true
-      go _ (behind a l h) x = rest a (blanks l) x
-      go _ (faulty i n h f) x = let ek : i ≡ k = cc in subst (λ (y : ℕ). isFault y ≡ true) ek f
+    go : (g : Got (List Filter)) → Within (blanks t) g → follow g (λ a l. allRead a (blanks l)) ≡ stop k m → isFault k ≡ true
+    go _ (behind a l h) x = rest a (blanks l) x
+    go _ (faulty i n h f) x = let ek : i ≡ k = cc in subst (λ (y : ℕ). isFault y ≡ true) ek f
