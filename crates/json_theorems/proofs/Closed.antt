@@ -74,19 +74,19 @@ module _ (P : (A : Type 0) → (List ℕ → Got A) → Type 0) (closed : Closed
       by none = eleven-refusal
       by (some b) = tt
 
-  natural-closed : (most : ℕ) → P _ (naturalThere most)
+  pub natural-closed : (most : ℕ) → P _ (naturalThere most)
   unfolding naturalThere
   natural-closed most = made-closed numberThere (closed .number) (λ t. check (all isDigit t && leb (decimal 0 t) most) (some (decimal 0 t)))
 
-  word-closed : {A : Type 0} (g : List ℕ → Option A) → P _ (wordThere g)
+  pub word-closed : {A : Type 0} (g : List ℕ → Option A) → P _ (wordThere g)
   unfolding wordThere
   word-closed g = made-closed stringThere (closed .string) g
 
-  list-closed : {A : Type 0} (r : List ℕ → Got A) → P _ r → P _ (listThere r)
+  pub list-closed : {A : Type 0} (r : List ℕ → Got A) → P _ r → P _ (listThere r)
   unfolding listThere
   list-closed r s = closed .array _ (λ xs. closed .put r s (λ a. xs ++ (a ∷ []))) []
 
-  one-closed : {A B : Type 0} (known : List ℕ → Option A) (reads : A → List ℕ → Got B) → ((w : A) → P _ (reads w)) → P _ (oneThere known reads)
+  pub one-closed : {A B : Type 0} (known : List ℕ → Option A) (reads : A → List ℕ → Got B) → ((w : A) → P _ (reads w)) → P _ (oneThere known reads)
   unfolding oneThere
   one-closed {A} {B} known reads s = ending-closed _ (closed .object (oneJudge known) ok (oneStep known reads) step none) oneEnd
     where
@@ -110,7 +110,7 @@ module _ (P : (A : Type 0) → (List ℕ → Got A) → Type 0) (closed : Closed
           by none = closed .refused
           by (some w) = closed .put (reads w) (s w) (λ b. some (held k b))
 
-  keyed-closed : {A B : Type 0} (keys : List Key) (reads : ℕ → List ℕ → Got A) (whole : (ℕ → Option (Option A)) → Option B) → ((f : ℕ) → P _ (reads f)) → P _ (keyedThere keys reads whole)
+  pub keyed-closed : {A B : Type 0} (keys : List Key) (reads : ℕ → List ℕ → Got A) (whole : (ℕ → Option (Option A)) → Option B) → ((f : ℕ) → P _ (reads f)) → P _ (keyedThere keys reads whole)
   unfolding keyedThere
   keyed-closed {A} keys reads whole s =
       ending-closed _ (closed .object (λ ts k. fieldJudge ts (fieldOf keys k)) (λ ts k. ok ts (fieldOf keys k)) (λ ts k. behindKey (fieldReader reads ts (fieldOf keys k))) (λ ts k. step ts (fieldOf keys k)) []) (λ ts. whole (λ f. some (valueOf f ts)))
@@ -127,15 +127,15 @@ module _ (P : (A : Type 0) → (List ℕ → Got A) → Type 0) (closed : Closed
           by true = closed .refused
           by false = closed .put (reads f) (s f) (λ a. typed f a ∷ ts)
 
-  action-closed : P _ actionThere
+  pub action-closed : P _ actionThere
   unfolding actionThere
   action-closed = closed .either _ _ (word-closed _) (one-closed _ _ (λ w. closed .put _ (natural-closed (2 ^ 32 - 1)) _))
 
-  operator-closed : P _ operatorThere
+  pub operator-closed : P _ operatorThere
   unfolding operatorThere
   operator-closed = closed .either _ _ (word-closed _) (one-closed _ _ (λ w. closed .put _ (natural-closed (2 ^ 64 - 1)) _))
 
-  comment-closed : P _ (nullOr stringThere)
+  pub comment-closed : P _ (nullOr stringThere)
   comment-closed = closed .orNull stringThere (closed .string)
 
   module _ (j : Judges) where
@@ -148,7 +148,7 @@ module _ (P : (A : Type 0) → (List ℕ → Got A) → Type 0) (closed : Closed
     condition-reads-closed (suc (suc (suc (suc zero)))) = closed .put _ comment-closed _
     condition-reads-closed (suc (suc (suc (suc (suc n))))) = closed .refused
 
-    condition-closed : P _ (conditionThere j)
+    pub condition-closed : P _ (conditionThere j)
     unfolding conditionThere oneOf
     condition-closed = asked-closed _ (keyed-closed conditionKeys (conditionReads j) conditionFrom condition-reads-closed) (j .fits) tooWide refl
 
@@ -159,7 +159,7 @@ module _ (P : (A : Type 0) → (List ℕ → Got A) → Type 0) (closed : Closed
     line-reads-closed (suc (suc zero)) = closed .put _ comment-closed _
     line-reads-closed (suc (suc (suc n))) = closed .refused
 
-    line-closed : P _ (lineThere j)
+    pub line-closed : P _ (lineThere j)
     unfolding lineThere
     line-closed = keyed-closed lineKeys (lineReads j) lineFrom line-reads-closed
 
@@ -169,7 +169,7 @@ module _ (P : (A : Type 0) → (List ℕ → Got A) → Type 0) (closed : Closed
     filter-reads-closed (suc (suc zero)) = closed .put _ (list-closed (lineThere j) line-closed) _
     filter-reads-closed (suc (suc (suc n))) = closed .refused
 
-    filter-closed : (name : List ℕ) → P _ (filterThere j name)
+    pub filter-closed : (name : List ℕ) → P _ (filterThere j name)
     unfolding filterThere oneOf
     filter-closed name = asked-closed _ (keyed-closed filterKeys (filterReads j) (filterFrom name) filter-reads-closed) (λ f. j .differ (f .mismatch) (f .onMatch)) equalActions refl
 

@@ -70,10 +70,10 @@ plain-chain l = refl
 abbrev pub badPlace : List ℕ → ℕ
 badPlace l = cond (eqb (first l) backslash) (escapeBad l) (plainBad l)
 
-abbrev Alike : ℕ → List ℕ → List ℕ → Type 0
-Alike m l l' = (j : ℕ) → j ≤ m → getD l j 0 ≡ getD l' j 0
+abbrev SameUpTo : ℕ → List ℕ → List ℕ → Type 0
+SameUpTo m l l' = (j : ℕ) → j ≤ m → getD l j 0 ≡ getD l' j 0
 
-escape-alike : (m : ℕ) (l l' : List ℕ) → Alike m l l' → escapeBad l ≡ m → escapeBad l' ≡ m
+escape-alike : (m : ℕ) (l l' : List ℕ) → SameUpTo m l l' → escapeBad l ≡ m → escapeBad l' ≡ m
 escape-alike m l l' a e =
     escape-chain l'
     ∙ chain-same 1 m (escapeTests l) (escapeTests l') (
@@ -103,7 +103,7 @@ escape-alike m l l' a e =
     two : (x x' y y' : ℕ) → x ≡ x' → y ≡ y' → (leb 16 (hexOf y) || (eqb (hexOf x) 13 && leb 12 (hexOf y))) ≡ (leb 16 (hexOf y') || (eqb (hexOf x') 13 && leb 12 (hexOf y')))
     two x x' y y' p q = rw (p, q)
 
-plain-alike : (m : ℕ) (l l' : List ℕ) → Alike m l l' → plainBad l ≡ m → plainBad l' ≡ m
+plain-alike : (m : ℕ) (l l' : List ℕ) → SameUpTo m l l' → plainBad l ≡ m → plainBad l' ≡ m
 plain-alike m l l' a e =
     plain-chain l'
     ∙ chain-same 0 m (plainTests l) (plainTests l') (
@@ -119,7 +119,7 @@ plain-alike m l l' a e =
     two x x' y y' p q = rw (p, q)
 
 -- two texts that are alike up to where one goes wrong go wrong at one place
-pub bad-alike : (l l' : List ℕ) → Alike (badPlace l) l l' → badPlace l' ≡ badPlace l
+pub bad-alike : (l l' : List ℕ) → SameUpTo (badPlace l) l l' → badPlace l' ≡ badPlace l
 bad-alike l l' a = go (eqb (first l) backslash) refl
   where
     go : (t : Bool) → eqb (first l) backslash ≡ t → badPlace l' ≡ badPlace l

@@ -15,7 +15,7 @@ use Rattle.definitions.specs.JsonForm.{same, Filter}
 use Rattle.definitions.specs.JsonReader.{Got, got, stop, notJson, follow, first, blanks, ended, unless, Piece, character, onPiece, characters, stringAt, placed, badCharacter, escapeBad, plainBad, badNumber, badWhole, badFraction, wholeCount, fractionCount, exponentSign, signCount, numberCount, keyAt, fields, objectAt, items, arrayAt, literalAt, apart}
 use Rattle.definitions.specs.FormReader.{notOfForm, wrong, stringThere, onNumber, numberThere, numberText, objectThere, arrayThere, behindKey, Judges, Verdict, fine, begun, closing, answered, judged, putIn, nullOr, eitherThere, filtersThere, allRead, whole, readFilters}
 use Rattle.json_theorems.proofs.Faith.{number-faithful}
-use Rattle.json_theorems.proofs.Closed.{isRefusal, isFault, eleven-refusal, Judged, Fair, filters-closed}
+use Rattle.json_theorems.proofs.Closed.{isRefusal, isFault, eleven-refusal, Judged, Fair, Closed, filters-closed}
 use Rattle.json_theorems.proofs.Sizes.{blanks-size, reader-one}
 
 -- ---- what came of a part that began with l
@@ -259,9 +259,9 @@ pub steady-either : {A : Type 0} (r s : List ℕ → Got A) → Steady r → Ste
 unfolding eitherThere
 steady-either r s a b = record { within = λ l. within-cond l (eqb (first l) quote) (r l) (s l) (λ e. a .within l) (b .within l) }
 
--- the form's reader
-pub steady-filters : (j : Judges) → Steady (filtersThere j)
-steady-filters = filters-closed (λ A r. Steady r) (record {
+-- so every reader that is made of these is steady
+pub steady-closed : Closed (λ A r. Steady r)
+steady-closed = record {
   string = steady-string;
   number = steady-number;
   judge = λ r s g f. steady-judged r s g f;
@@ -271,7 +271,10 @@ steady-filters = filters-closed (λ A r. Steady r) (record {
   array = steady-array;
   orNull = steady-null;
   either = steady-either;
-})
+}
+
+pub steady-filters : (j : Judges) → Steady (filtersThere j)
+steady-filters = filters-closed (λ A r. Steady r) steady-closed
 
 -- what is refused in a text is refused by the number of a fault
 pub read-stops : (j : Judges) (t : List ℕ) (k : ℕ) (m : List ℕ) → readFilters j t ≡ stop k m → isFault k ≡ true
