@@ -2,7 +2,7 @@
 -- instructions goes by these and never looks into `place`.
 use mathlib.Core.Path.{_≡_, refl, ap, sym, _∙_}
 use mathlib.Core.List.{List, [], _∷_, _++_, append-assoc, append-nil}
-use Prim.Native.Nat.{ℕ, suc, _+_, _-_, _*_, _≤_, _<_}
+use Prim.Native.Nat.{ℕ, suc, _+_, _-_, _*_, _/_, _≤_, _<_}
 use native.Mathlib.Nat.{add-suc, add-zero, add-assoc}
 use native.Mathlib.Numerals.{add-one}
 use native.Mathlib.Omega.{arith}
@@ -109,6 +109,16 @@ pub put-two : (l : List ℕ) (at a b : ℕ) → at + 8 ≤ length l
     → place (place l at (bytesOf 4 a)) (at + 4) (bytesOf 4 b) ≡ place l at (bytesOf 4 a ++ bytesOf 4 b)
 unfolding bytesOf
 put-two l at a b h = place-next l at (at + 4) (bytesOf 4 a) (bytesOf 4 b) refl (omega arith)
+
+-- a long number is two short ones
+bytes-8 : (v : ℕ) → bytesOf 8 v ≡ bytesOf 4 v ++ bytesOf 4 (v / 256 / 256 / 256 / 256)
+unfolding bytesOf
+bytes-8 v = refl
+
+pub put-8 : (l : List ℕ) (at v : ℕ) → at + 8 ≤ length l
+    → place (place l at (bytesOf 4 v)) (at + 4) (bytesOf 4 (v / 256 / 256 / 256 / 256)) ≡ place l at (bytesOf 8 v)
+put-8 l at v h =
+    rw (bytes-8 v) (put-two l at v (v / 256 / 256 / 256 / 256) h)
 
 -- ---- instructions
 

@@ -50,6 +50,15 @@ pub fn write_u32(out: &mut [u8], at: usize, v: u64)
     out[at + 3] = (v / 256 / 256 / 256 % 256) as u8;
 }
 
+// Writes the eight bytes of a number at a place, and leaves the rest as it was.
+pub fn write_u64(out: &mut [u8], at: usize, v: u64)
+    requires { ⌜ at + 8 ≤ length (now out) ⌝ }
+    ensures { λ _. ⌜ now (out .exit) ≡ place (now (out .entry)) at (bytesOf 8 v) ⌝ }
+{
+    write_u32(out, at, v);
+    write_u32(out, at + 4, v / 256 / 256 / 256 / 256);
+}
+
 pub fn load(k: u32) -> Instruction
     ensures { λ r. ⌜ r ≡ emitted.load k ⌝ }
 {

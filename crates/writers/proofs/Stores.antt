@@ -1,14 +1,14 @@
 -- Laws of bytes put into a buffer.
-use mathlib.Core.Path.{_≡_, refl, ap, _∙_, sym}
+use mathlib.Core.Path.{_≡_, ap, _∙_, sym}
 use mathlib.Core.List.{List, _++_, append-assoc}
-use Prim.Native.Nat.{ℕ, _+_, _/_, _^_, _≤_, _<_}
+use Prim.Native.Nat.{ℕ, _+_, _^_, _≤_, _<_}
 use native.Mathlib.Omega.{arith}
 use lib.ListN.{length, take, drop, length-append, length-take}
 use lib.Seq.{take-at, drop-at, drop-append-add}
 use Rattle.definitions.specs.Word.{bytesOf, numberAt}
 use Rattle.theorems.proofs.Words.{length-bytes, number-here, number-front}
 use Rattle.bpf.specs.Place.{place}
-use Rattle.bpf.proofs.Buffer.{length-place, place-next, put-two, drop-place}
+use Rattle.bpf.proofs.Buffer.{length-place, place-next, drop-place}
 
 pub put-four : (l : List ℕ) (a b c d : ℕ) → 16 ≤ length l
     → place (place (place (place l 0 (bytesOf 4 a)) 4 (bytesOf 4 b)) 8 (bytesOf 4 c)) 12 (bytesOf 4 d)
@@ -33,16 +33,6 @@ put-long l at names v m e h =
 pub take-front : (l bs : List ℕ) (n : ℕ) → length bs ≡ n → take n (place l 0 bs) ≡ bs
 unfolding place
 take-front l bs n e = take-at bs (drop (0 + length bs) l) n e
-
--- a long number is two short ones
-pub bytes-8 : (v : ℕ) → bytesOf 8 v ≡ bytesOf 4 v ++ bytesOf 4 (v / 256 / 256 / 256 / 256)
-unfolding bytesOf
-bytes-8 v = refl
-
-pub put-8 : (l : List ℕ) (at v : ℕ) → at + 8 ≤ length l
-    → place (place l at (bytesOf 4 v)) (at + 4) (bytesOf 4 (v / 256 / 256 / 256 / 256)) ≡ place l at (bytesOf 8 v)
-put-8 l at v h =
-    rw (bytes-8 v) (put-two l at v (v / 256 / 256 / 256 / 256) h)
 
 -- ---- a part put behind what is there, and a count in it raised
 

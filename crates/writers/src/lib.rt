@@ -13,15 +13,8 @@ ghost use Rattle.definitions.specs.Writers.{stateFits, codeFor, Started, Added}
 ghost use Rattle.bpf.specs.Place.{place};
 ghost use Rattle.writers.specs.Bytes.{headBytes, namesBytes, conditionBytes};
 use bpf::write_u32;
+use bpf::write_u64;
 use definitions::Writer;
-
-fn write_u64(out: &mut [u8], at: usize, v: u64)
-    requires { ⌜ at + 8 ≤ length (now out) ⌝ }
-    ensures { λ _. ⌜ now (out .exit) ≡ place (now (out .entry)) at (bytesOf 8 v) ⌝ }
-{
-    write_u32(out, at, v);
-    write_u32(out, at + 4, v / 256 / 256 / 256 / 256);
-}
 
 // Raises the count at a place.
 fn raise(out: &mut [u8], at: usize)

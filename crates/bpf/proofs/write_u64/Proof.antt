@@ -1,9 +1,9 @@
 -- `write_u64` meets its contract: eight bytes are twice four.
 use native.Mathlib.Omega.{arith}
-use Rattle.writers.proofs.Stores.{put-8}
+use Rattle.bpf.proofs.Buffer.{put-8}
 use borrow.Author.Needs.{needs}
-use Rattle.writers.proofs.write_u64.Statement.{statement}
-use Rattle.writers.proofs.write_u64.Tie as tie
+use Rattle.bpf.proofs.write_u64.Statement.{statement}
+use Rattle.bpf.proofs.write_u64.Tie as tie
 
 write-u32-requires : tie.Need-write-u32-requires
 write-u32-requires c κs = search needs
