@@ -4,7 +4,7 @@ use mathlib.Core.List.{List, _++_, append-assoc}
 use Prim.Native.Nat.{ℕ, _+_, _≤_}
 use native.Mathlib.Nat.{add-assoc}
 use native.Mathlib.Omega.{arith}
-use lib.ListN.{length, take, drop, length-append, length-take, length-drop, take-append-drop}
+use lib.ListN.{length, take, drop, length-take, take-append-drop}
 use lib.Seq.{take-at, drop-at, take-take, take-append-le, drop-append-le, drop-drop, take-add}
 use Rattle.bpf.specs.Place.{place}
 use Rattle.bpf.proofs.Buffer.{drop-place}

@@ -268,7 +268,7 @@ turned f es few empty h =
     turns-there f es _ (w .0) (w .1)
 
 -- an entry has eight bytes at least
-eight : (es : List Entry) → 8 * length es ≤ length (joined encodeEntry es)
+pub eight : (es : List Entry) → 8 * length es ≤ length (joined encodeEntry es)
 eight [] = omega arith
 eight (e ∷ es) = let l = length-append (encodeEntry e) (joined encodeEntry es) in omega (arith, length-entry e, eight es)
 
