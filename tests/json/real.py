@@ -2,6 +2,7 @@
 tests/oracle, and copied unchanged into target/; serde and what it needs come from Debian by name, as the packages lay them. Where one of them
 cannot be had, Missing says so."""
 import hashlib
+import os
 import pathlib
 import shutil
 import struct
@@ -35,6 +36,7 @@ serde_json = "1"
 # distances are 8-bit numbers in seccompiler: one that does not fit must stop the oracle, not wrap around
 [profile.release]
 overflow-checks = true
+opt-level = 1
 """
 LIBC_MANIFEST = """[package]
 name = "libc"
@@ -52,10 +54,10 @@ directory = "{SOURCES}"
 """
 
 
-def command(*words, **more):
-    done = subprocess.run(list(map(str, words)), stdout=subprocess.PIPE, stderr=subprocess.STDOUT, text=True, **more)
+def command(*words):
+    done = subprocess.run(words, stdout=subprocess.PIPE, stderr=subprocess.STDOUT, text=True)
     if done.returncode:
-        raise Missing(f"{words[0]} ended with status {done.returncode}: {done.stdout.strip()[-600:]}")
+        raise Missing(f"{words[0]} ended with status {done.returncode}: {done.stdout.strip()[-300:]}")
 
 
 def install():
@@ -90,7 +92,8 @@ def build():
     if not (PROGRAM.is_file() and stamp.is_file() and stamp.read_text() == digest):
         stamp.unlink(missing_ok=True)
         lay_out(files)
-        command("cargo", "build", "--quiet", "--release", "--offline", "--target-dir", TARGET / "cargo", cwd=main)
+        quiet = {**os.environ, "RUSTFLAGS": "--cap-lints allow"}
+        subprocess.run(["cargo", "build", "--quiet", "--release", "--offline", "--target-dir", TARGET / "cargo"], cwd=main, env=quiet, check=True)
         shutil.copy(TARGET / "cargo" / "release" / "oracle", PROGRAM)
         stamp.write_text(digest)
     return PROGRAM

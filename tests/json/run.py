@@ -133,9 +133,9 @@ def check_model(tally):
 
 def check_real(tally, oracle, frames, answers):
     """The model against the real front end."""
-    for code, _, kind, text in examples.cases():
-        found = real.ask(oracle, names.table(), [(1, text)])[0][0]
-        tally.check(found == kind, f"stored is {kind} of the real front end, it says {found} of {text}")
+    cases = examples.cases()
+    for (_, _, kind, text), said in zip(cases, real.ask(oracle, names.table(), [(1, text) for *_, text in cases])):
+        tally.check(said[0] == kind, f"stored is {kind} of the real front end, it says {said[0]} of {text}")
     met = collections.Counter()
     for (_, text), (code, _, _, programs), said in zip(frames, answers, real.ask(oracle, names.table(), frames)):
         kinds, wrong = differences.compare(text, (code, programs), said)

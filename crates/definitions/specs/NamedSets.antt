@@ -1,6 +1,6 @@
 -- Named sets in bytes, as `encodeNamed` writes them: what walking through them and looking for one of them promises, for any bytes and any
--- place, and what a user of both gets from bytes that are named sets.
-use Prim.Native.Nat.{ℕ, zero, suc, _+_, _^_}
+-- place, and what a user of both gets, from any bytes and from bytes that are named sets.
+use Prim.Native.Nat.{ℕ, zero, suc, _+_, _^_, _≤_}
 use mathlib.Core.Path.{_≡_}
 use mathlib.Core.Bool.{Bool, cond, not, _&&_}
 use mathlib.Core.List.{List, [], _∷_}
@@ -55,6 +55,19 @@ findFrom (suc n) bytes name at =
 -- a step passes 8 bytes at least, so that there are never more steps than this
 unfoldable pub findSet : List ℕ → List ℕ → NamedPlace
 findSet bytes name = findFrom (suc (length bytes)) bytes name 0
+
+-- ---- what a user gets from any bytes
+
+-- a set that is given lies in the bytes, name and all
+pub record Inside (bytes : List ℕ) (p : NamedPlace) : Type 0 where
+  pub name : p .name + p .«name_len» ≤ length bytes
+  pub set : p .set + p .«set_len» ≤ length bytes
+  pub next : p .next ≤ length bytes
+
+-- a set that is found lies in the bytes, and its name is the one that was looked for
+pub record Found (bytes name : List ℕ) (p : NamedPlace) : Type 0 where
+  pub inside : Inside bytes p
+  pub named : part bytes (p .name) (p .«name_len») ≡ name
 
 -- ---- what a user gets from bytes that are named sets
 

@@ -8,11 +8,12 @@ use native.Mathlib.Numerals.{add-one}
 use lib.Dec.{eqb}
 use lib.ListN.{length, take, drop, getD, length-drop, drop-of-length-le}
 use lib.Seq.{drop-cons, length-take-le}
-use borrow.Author.Tests.{eq-eqb, ne-eqb}
+use borrow.Author.Tests.{eqb-false, eq-eqb, ne-eqb}
 use Rattle.definitions.specs.declared.NamedPlace.{NamedPlace}
 use Rattle.definitions.specs.JsonForm.{same}
-use Rattle.definitions.specs.NamedSets.{part, isOther, nextSet, findFrom, findSet}
-use Rattle.named_sets.proofs.Places.{Inside, there-inside}
+use Rattle.definitions.specs.NamedSets.{part, isOther, nextSet, findFrom, findSet, Inside, Found}
+use Rattle.json_theorems.proofs.Values.{same-true}
+use Rattle.named_sets.proofs.Places.{next-inside, next-further}
 
 -- ---- names of different lengths differ
 
@@ -86,12 +87,15 @@ module _ (bytes name : List ℕ) where
   stops : (at : ℕ) → isOther bytes name (nextSet bytes at) ≡ false → Walking bytes name at → nextSet bytes at ≡ findSet bytes name
   stops at e w = sym (w .whole ∙ find-step (w .steps) at ∙ rw e)
 
-  goes-on : (at : ℕ) → isOther bytes name (nextSet bytes at) ≡ true → Inside bytes at (nextSet bytes at) → Walking bytes name at → Walking bytes name (nextSet bytes at .next)
-  goes-on at e i w = go (w .steps) (w .enough) (w .whole ∙ find-step (w .steps) at ∙ rw e)
+  goes-on : (at : ℕ) → isOther bytes name (nextSet bytes at) ≡ true → nextSet bytes at .code ≡ 0 → Walking bytes name at → Walking bytes name (nextSet bytes at .next)
+  goes-on at e z w = go (w .steps) (w .enough) (w .whole ∙ find-step (w .steps) at ∙ rw e)
     where
+      end : nextSet bytes at .next ≤ length bytes
+      end = next-inside bytes at z .next
+
       go : (n : ℕ) → length bytes ≤ n + at → findSet bytes name ≡ findFrom n bytes name (nextSet bytes at .next) → Walking bytes name (nextSet bytes at .next)
-      go zero h same = absurd (omega (arith, i .further, i .end))
-      go (suc n) h same = record { steps = n; enough = omega (arith, i .further); inside = i .end; whole = same }
+      go zero h same = absurd (omega (arith, next-further bytes at z, end))
+      go (suc n) h same = record { steps = n; enough = omega (arith, next-further bytes at z); inside = end; whole = same }
 
   module _ (at : ℕ) (p : NamedPlace) (there : p ≡ nextSet bytes at) (w : Walking bytes name at) where
     pub walk-none : (p .code ≡ 0 → ⊥) → p ≡ findSet bytes name
@@ -109,13 +113,37 @@ module _ (bytes name : List ℕ) where
             never true = refl
             never false = refl
 
-    pub walk-inside : p .code ≡ 0 → Inside bytes at p
-    walk-inside z = rw there (there-inside bytes at (rw there at z))
+    pub walk-inside : p .code ≡ 0 → Inside bytes p
+    walk-inside z = rw there (next-inside bytes at (rw there at z))
+
+    pub walk-further : p .code ≡ 0 → at + 8 ≤ p .next
+    walk-further z = rw there (next-further bytes at (rw there at z))
 
     pub walk-on : p .code ≡ 0 → same (part bytes (p .name) (p .«name_len»)) name ≡ false → Walking bytes name (p .next)
     unfolding isOther
-    walk-on z e = rw there (goes-on at (other (rw there at z) (rw there at e)) (there-inside bytes at (rw there at z)) w)
+    walk-on z e = rw there (goes-on at (other (rw there at z) (rw there at e)) (rw there at z) w)
       where
         other : nextSet bytes at .code ≡ 0 → same (part bytes (nextSet bytes at .name) (nextSet bytes at .«name_len»)) name ≡ false
             → isOther bytes name (nextSet bytes at) ≡ true
         other z e = rw (eq-eqb (nextSet bytes at .code) 0 z, e)
+
+-- ---- what is found, in any bytes
+
+found-from : (bytes name : List ℕ) (steps at : ℕ) → findFrom steps bytes name at .code ≡ 0 → Found bytes name (findFrom steps bytes name at)
+unfolding findFrom isOther
+found-from bytes name zero at z = absurd (omega arith)
+found-from bytes name (suc steps) at z =
+    go (eqb (nextSet bytes at .code) 0) (same (part bytes (nextSet bytes at .name) (nextSet bytes at .«name_len»)) name) refl refl z
+    (found-from bytes name steps (nextSet bytes at .next))
+  where
+    go : (t u : Bool) → eqb (nextSet bytes at .code) 0 ≡ t → same (part bytes (nextSet bytes at .name) (nextSet bytes at .«name_len»)) name ≡ u
+        → cond (t && not u) (findFrom steps bytes name (nextSet bytes at .next)) (nextSet bytes at) .code ≡ 0
+        → (findFrom steps bytes name (nextSet bytes at .next) .code ≡ 0 → Found bytes name (findFrom steps bytes name (nextSet bytes at .next)))
+        → Found bytes name (cond (t && not u) (findFrom steps bytes name (nextSet bytes at .next)) (nextSet bytes at))
+    go false u e f z further = absurd (eqb-false (nextSet bytes at .code) 0 e z)
+    go true true e f z further = record { inside = next-inside bytes at z; named = same-true _ name f }
+    go true false e f z further = further z
+
+pub found : (bytes name : List ℕ) → findSet bytes name .code ≡ 0 → Found bytes name (findSet bytes name)
+unfolding findSet
+found bytes name = found-from bytes name (suc (length bytes)) 0

@@ -31,7 +31,10 @@ returns-2 : tie.Need-returns-2 Inv-loop μ-loop
 returns-2 c = naming.walk-found (now (c .before .before .before .before .before .before .before .before .args .sets)) (now (c .before .before .before .before .before .before .before .before .args .name)) (c .before .before .before .before .before .loop .at) (c .before .before .before .before .next-set .result) (c .before .before .before .before .next-set .ensures) (c .before .before .before .before .before .loop .inv) (sym (c .before .is-named .ensures) ∙ c .if2 .taken)
 
 loop-less : tie.Need-loop-less Inv-loop μ-loop
-loop-less c = let i = naming.walk-inside (now (c .before .before .before .before .before .before .before .before .args .sets)) (now (c .before .before .before .before .before .before .before .before .args .name)) (c .before .before .before .before .before .loop .at) (c .before .before .before .before .next-set .result) (c .before .before .before .before .next-set .ensures) (c .before .before .before .before .before .loop .inv) (c .before .before .if1 .left) in omega arith
+loop-less c =
+    let further = naming.walk-further (now (c .before .before .before .before .before .before .before .before .args .sets)) (now (c .before .before .before .before .before .before .before .before .args .name)) (c .before .before .before .before .before .loop .at) (c .before .before .before .before .next-set .result) (c .before .before .before .before .next-set .ensures) (c .before .before .before .before .before .loop .inv) (c .before .before .if1 .left) in
+    let inside = naming.walk-inside (now (c .before .before .before .before .before .before .before .before .args .sets)) (now (c .before .before .before .before .before .before .before .before .args .name)) (c .before .before .before .before .before .loop .at) (c .before .before .before .before .next-set .result) (c .before .before .before .before .next-set .ensures) (c .before .before .before .before .before .loop .inv) (c .before .before .if1 .left) in
+    omega arith
 
 loop-again : tie.Need-loop-again Inv-loop μ-loop
 loop-again c = naming.walk-on (now (c .before .before .before .before .before .before .before .before .args .sets)) (now (c .before .before .before .before .before .before .before .before .args .name)) (c .before .before .before .before .before .loop .at) (c .before .before .before .before .next-set .result) (c .before .before .before .before .next-set .ensures) (c .before .before .before .before .before .loop .inv) (c .before .before .if1 .left) (sym (c .before .is-named .ensures) ∙ c .if2 .left)
