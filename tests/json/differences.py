@@ -1,5 +1,7 @@
 """What is known to differ between this reader and seccompiler's front end, each as a predicate on the text, and the comparison of the two
 answers to a text. A difference that no predicate foretells is a failure, and so is one that never occurs."""
+import json
+
 from model import ACTIONS, NUMBERED, OPERATORS, WIDTHS, LONGEST_TEXT, value_of
 
 ARRAY = "an array in the place of an object"
@@ -75,6 +77,73 @@ class Found:
             self.kinds.add(WIDE)
 
 
+# ---- a text that only the real front end takes, as this one takes it
+
+FILTER_ORDER = (b"mismatch_action", b"match_action", b"filter")
+LINE_ORDER = (b"syscall", b"args", b"comment")
+CONDITION_ORDER = (b"index", b"type", b"op", b"val", b"comment")
+
+
+def rewritten(value, order, change):
+    """An array as an object with these keys, and each member changed."""
+    kind, held = value
+    members = zip(order, held) if kind == "array" else held
+    return "object", [(key, change(key, child)) for key, child in members]
+
+
+def rewritten_list(value, change):
+    return (value[0], [change(child) for child in value[1]]) if value[0] == "array" else value
+
+
+def rewritten_word(value):
+    return ("string", value[1][0][0]) if value[0] == "object" and value[1][0][1] == NOTHING else value
+
+
+def narrowed(value):
+    """A number, or the mask of an operator, by its low 32 bits."""
+    kind, held = value
+    if kind == "number":
+        return kind, b"%d" % (int(held) % 2 ** 32)
+    return (kind, [(key, narrowed(child)) for key, child in held]) if kind == "object" else value
+
+
+def rewritten_condition(value):
+    def change(key, child):
+        return rewritten_word(child) if key in (b"type", b"op") else child
+
+    kind, members = rewritten(value, CONDITION_ORDER, change)
+    if (b"type", ("string", b"dword")) in members:
+        members = [(key, narrowed(child) if key in (b"op", b"val") else child) for key, child in members]
+    return kind, members
+
+
+def rewritten_line(value):
+    return rewritten(value, LINE_ORDER, lambda key, child: rewritten_list(child, rewritten_condition) if key == b"args" else child)
+
+
+def rewritten_filter(value):
+    return rewritten(
+        value, FILTER_ORDER, lambda key, child: rewritten_list(child, rewritten_line) if key == b"filter" else rewritten_word(child))
+
+
+def printed(value):
+    kind, held = value
+    if kind == "string":
+        return json.dumps(held.decode()).encode()
+    if kind == "array":
+        return b"[" + b",".join(map(printed, held)) + b"]"
+    if kind == "object":
+        return b"{" + b",".join(printed(("string", key)) + b":" + printed(child) for key, child in held) + b"}"
+    return held if kind == "number" else kind.encode()
+
+
+def in_our_form(text):
+    _, filters = value_of(text)
+    return printed(("object", [(name, rewritten_filter(given)) for name, given in filters]))
+
+
+# ---- the comparison
+
 # the codes with which a text is refused that the real front end takes, and the differences that explain each
 REFUSED_HERE = {3: {SAME_WORD}, 8: {WIDE}, 11: {ARRAY, WORD_ACTION, WORD_OPERATOR, WORD_WIDTH}, 15: {LONG_TEXT}}
 
@@ -83,21 +152,24 @@ def foretold(text):
     return Found(value_of(text)).kinds | ({LONG_TEXT} if len(text) > LONGEST_TEXT else set())
 
 
-def compare(text, ours, real):
+def compare(text, ours, real, again):
     """The differences between (code, programs) and (code, count, programs), as a set, and what is wrong with them, if anything is. Programs
-    are by name; one that is too long is its number of instructions."""
+    are by name; one that is too long is its number of instructions. `again` gives our answer to another text."""
     code, programs = ours
     kind, count, others = real
     if code == 0 and kind == 0:
         return set(), "" if programs == others else "the programs differ"
     if kind == 0:
-        explained = foretold(text) & REFUSED_HERE.get(code, set())
-        return explained, "" if explained else f"refused with {code}, and taken by the real front end"
+        foreseen = foretold(text)
+        explained = foreseen & REFUSED_HERE.get(code, set())
+        if not explained:
+            return set(), f"refused with {code}, and taken by the real front end"
+        found, programs = again(in_our_form(text))
+        alike = (found == 0 and programs == others) or (found == 3 and SAME_WORD in foreseen)
+        return explained, "" if alike else "the programs differ where the text is in our form"
     if code == 0 and kind == 6:
         lengths = [program if isinstance(program, int) else len(program) // 8 for program in programs.values()]
-        if count == 4096:
-            return {FULL}, "" if count in lengths else "the real one counts 4,096 instructions"
-        return set(), "" if count in lengths else f"the real one counts {count} instructions"
+        return {FULL} if count == 4096 else set(), "" if count in lengths else f"the real one counts {count} instructions"
     if code == 0:
         explained = foretold(text) & {USER_NOTIF}
         return explained, "" if explained else f"taken, and refused by the real front end with {kind}"

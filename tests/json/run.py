@@ -54,6 +54,12 @@ def program(rule_set):
     return b"".join(struct.pack("<HBBI", *step) for step in model.set_model.emitted(rule_set))
 
 
+def answer(architecture, text):
+    """The model's answer: (code, place, sets, programs by name)."""
+    code, at, sets = model.read(text, names.KNOWN, architecture)
+    return code, at, sets, {name: program(rule_set) for name, rule_set in sets}
+
+
 # ---- texts
 
 def escaped(text):
@@ -137,8 +143,8 @@ def check_real(tally, oracle, frames, answers):
     for (_, _, kind, text), said in zip(cases, real.ask(oracle, names.table(), [(1, text) for *_, text in cases])):
         tally.check(said[0] == kind, f"stored is {kind} of the real front end, it says {said[0]} of {text}")
     met = collections.Counter()
-    for (_, text), (code, _, _, programs), said in zip(frames, answers, real.ask(oracle, names.table(), frames)):
-        kinds, wrong = differences.compare(text, (code, programs), said)
+    for (architecture, text), (code, _, _, programs), said in zip(frames, answers, real.ask(oracle, names.table(), frames)):
+        kinds, wrong = differences.compare(text, (code, programs), said, lambda other: answer(architecture, other)[::3])
         met.update(kinds)
         tally.check(not wrong, f"{wrong}: {text[:300]}")
     for kind in differences.ALL:
@@ -162,10 +168,7 @@ def main():
     check_model(tally)
     tally.group("the model against the definitions and the cases")
     frames = [(1 + place % 3, text) for place, text in enumerate(all_texts(chosen.seed, chosen.texts))]
-    answers = []
-    for architecture, text in frames:
-        code, at, sets = model.read(text, names.KNOWN, architecture)
-        answers.append((code, at, sets, {name: program(rule_set) for name, rule_set in sets}))
+    answers = [answer(*frame) for frame in frames]
     try:
         check_real(tally, real.build(), frames, answers)
         tally.group("the model against the real front end")
