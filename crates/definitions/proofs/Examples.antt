@@ -6,3 +6,4 @@ pub mod RuleSet
 pub mod Emitted
 pub mod Answer
 pub mod Outcome
+pub mod NamedSets
