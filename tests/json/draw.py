@@ -1,11 +1,13 @@
-"""Random filters as JSON texts, and the same texts broken in one place. A value is a list: its kind, and what it holds (a string, a number's
-text, values, or [key, value] pairs), so that it can be broken where it stands."""
+"""Random filters as JSON texts, and the same texts broken in one place. A value is a list: its kind, and what it holds (a string, the text
+of a number, values, or [key, value] pairs), so that it can be broken where it stands."""
 import copy
 import random
 
 from names import NUMBERS
 
-STRINGS = "abcdefghijklmnopqrstuvwxyz_ 0123456789\"\\/\b\f\n\r\t\0\x1f\x7f\u00e9\u20ac\u2028\ud7ff\ue000\uffff\U00010000\U0001f600\U0010ffff"
+STRINGS = (
+    "abcdefghijklmnopqrstuvwxyz_ 0123456789\"\\/\b\f\n\r\t\0\x1f\x7f"
+    "\u00e9\u20ac\u2028\ud7ff\ue000\uffff\U00010000\U0001f600\U0010ffff")
 SHORT = {"\"": "\\\"", "\\": "\\\\", "/": "\\/", "\b": "\\b", "\f": "\\f", "\n": "\\n", "\r": "\\r", "\t": "\\t"}
 WORDS = ("allow", "kill_thread", "kill_process", "log", "trap")
 NUMBERED = ("errno", "trace")
@@ -14,10 +16,13 @@ OLD_WORDS = {"mismatch_action": "default_action", "match_action": "filter_action
 FILTER_ORDER = ("mismatch_action", "match_action", "filter")
 LINE_ORDER = ("syscall", "args", "comment")
 CONDITION_ORDER = ("index", "type", "op", "val", "comment")
-KEYS = (*FILTER_ORDER, *OLD_WORDS.values(), *LINE_ORDER, *CONDITION_ORDER, "errno", "trace", "masked_eq", "eq", "trap", "Syscall", "", "args ", "arg")
+KEYS = (
+    *FILTER_ORDER, *OLD_WORDS.values(), *LINE_ORDER, *CONDITION_ORDER, *NUMBERED, "masked_eq", "eq", "trap", "Syscall", "", "args ", "arg")
 BORDERS = tuple(str(number) for power in (8, 16, 32, 64) for number in (2 ** power - 1, 2 ** power, 2 ** power + 1))
 NUMBER_TEXTS = (*BORDERS, "5", "6", "-1", "-0", "1.0", "1e0", "1E+2", "01", "00", "1.", "1e", "1e400", "0x1", "+1", ".5", str(10 ** 30))
-OTHER_WORDS = ("Allow", "TRAP", "user_notif", "errno", "masked_eq", "dword", "qword", "eq", "allow ", "", "nope", "read\0", "sched_rr_get_interval_time6")
+OTHER_WORDS = (
+    "Allow", "TRAP", "user_notif", "errno", "masked_eq", "dword", "qword", "eq", "allow ", "", "nope", "read\0",
+    "sched_rr_get_interval_time6")
 
 
 def string(text):
@@ -79,14 +84,16 @@ class Draw:
         if self.rarely(4):
             operator = ["object", [["masked_eq", number(self.value(wide))]]]
         index = self.random.randrange(6) if not self.rarely(200) else self.random.choice((6, 7, 255))
-        members = [["index", number(index)], ["type", string("qword" if wide else "dword")], ["op", operator], ["val", number(self.value(wide))]]
+        width = string("qword" if wide else "dword")
+        members = [["index", number(index)], ["type", width], ["op", operator], ["val", number(self.value(wide))]]
         self.comment(members)
         return self.shuffled(members)
 
     def line(self):
         members = [["syscall", string(self.random.choice(list(NUMBERS)))]]
         if self.rarely(2):
-            members.append(["args", null() if self.rarely(5) else ["array", [self.condition() for _ in range(self.random.choice((1, 1, 2, 3)))]]])
+            conditions = [self.condition() for _ in range(self.random.choice((1, 1, 2, 3)))]
+            members.append(["args", null() if self.rarely(5) else ["array", conditions]])
         self.comment(members)
         return self.shuffled(members)
 
@@ -183,7 +190,8 @@ class Draw:
         return members
 
     def replaced(self, value):
-        return self.random.choice((null(), ["array", []], ["object", []], ["true", None], ["false", None], number(0), string("read"), ["array", [value]], ["object", [["eq", value]]]))
+        words = [["null", None], ["true", None], ["false", None], number(0), string("read")]
+        return self.random.choice((*words, ["array", []], ["object", []], ["array", [value]], ["object", [["eq", value]]]))
 
     def as_array(self, value):
         """An object by the order of its fields, as seccompiler takes it too."""

@@ -1,4 +1,5 @@
-"""Texts with known answers: those that the definitions compute in crates/json_theorems/proofs/Examples, read from there, and the stored cases."""
+"""Texts with known answers: those that the definitions compute in crates/json_theorems/proofs/Examples, read from there, and the stored
+cases."""
 import pathlib
 import re
 

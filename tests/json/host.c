@@ -1,5 +1,5 @@
-// A host in C around the proved JSON reader: it answers the texts that it is given, and looks at every byte that was not to be touched. Text,
-// table and buffers each end where readable memory ends, so that one byte too far stops the program.
+// A host in C around the proved JSON reader: it answers the texts that it is given, and looks at every byte that was not to be touched.
+// Text, table and buffers each end where readable memory ends, so that one byte too far stops the program.
 //
 // Standard input: the table (length, slots), then frames of (architecture, scratch length, out length, text length, text). Standard output,
 // for each: (code, at, count, end), as the answer lies in memory, and if the code is 0 the named sets and, for each of them as
@@ -94,7 +94,8 @@ int main(void) {
         if (memcmp(table_copy, table, table_len) != 0) stop("the table was changed");
         look(scratch - IN_FRONT, 0, IN_FRONT, frame, "a byte in front of scratch was changed");
         look(out - IN_FRONT, 0, IN_FRONT, frame, "a byte in front of the buffer was changed");
-        look(out - IN_FRONT, IN_FRONT + written, IN_FRONT + out_len, frame, answer.code == 0 ? "a byte behind the sets was changed" : "a refusal changed a byte");
+        const char *why = answer.code == 0 ? "a byte behind the sets was changed" : "a refusal changed a byte";
+        look(out - IN_FRONT, IN_FRONT + written, IN_FRONT + out_len, frame, why);
         write_whole(&answer, sizeof answer);
         write_whole(out, written);
         if (answer.code == 0) walk(out, written);

@@ -16,7 +16,8 @@ EQUAL_ACTIONS, EMPTY_ARGS, WRONG_INDEX, TOO_WIDE = 3, 4, 5, 8
 NOT_JSON, NOT_OF_FORM, GIVEN_TWICE, UNKNOWN_CALL, TOO_LONG = 10, 11, 12, 13, 15
 LONGEST_TEXT = 2 ** 20
 
-ACTIONS = {name.lower().encode(): getattr(set_model, name) for name in ("ALLOW", "KILL_THREAD", "KILL_PROCESS", "LOG", "TRAP", "USER_NOTIF")}
+ACTIONS = {
+    name.lower().encode(): getattr(set_model, name) for name in ("ALLOW", "KILL_THREAD", "KILL_PROCESS", "LOG", "TRAP", "USER_NOTIF")}
 NUMBERED = {b"errno": set_model.ERRNO, b"trace": set_model.TRACE}
 WIDTHS = {b"dword": 4, b"qword": 8}
 OPERATORS = {name.lower().encode(): getattr(set_model, name) for name in ("EQ", "GE", "GT", "LE", "LT", "NE")}

@@ -1,6 +1,6 @@
-"""Builds the oracle: the real JSON front end and compiler of seccompiler 0.5.0 behind our main.rs. seccompiler's source is lent, as for
-tests/oracle, and copied unchanged into target/; serde and what it needs come from Debian by name, as the packages lay them. Where one of them
-cannot be had, Missing says so."""
+"""Builds the oracle, the real JSON front end and compiler of seccompiler 0.5.0 behind our main.rs, and asks it. seccompiler's source is
+lent, as for tests/oracle, and copied unchanged into target/; serde and what it needs come from Debian by name, as the packages lay them.
+Where one of them cannot be had, Missing says so."""
 import hashlib
 import os
 import pathlib
@@ -15,7 +15,9 @@ from build import BACKEND, Missing, ROOT, lent_source
 
 TARGET = ROOT / "target" / "json"
 PROGRAM = TARGET / "oracle"
-PACKAGES = [f"librust-{name}-dev" for name in ("serde", "serde-derive", "serde-json", "itoa", "ryu", "proc-macro2", "quote", "syn", "unicode-ident")]
+PACKAGES = [
+    f"librust-{name}-dev"
+    for name in ("serde", "serde-derive", "serde-json", "itoa", "ryu", "proc-macro2", "quote", "syn", "unicode-ident")]
 # where these packages lay their sources
 SOURCES = pathlib.Path("/usr/share/cargo/registry")
 OURS = {"main.rs": HERE / "oracle" / "main.rs", "syscall_table.rs": HERE / "oracle" / "syscall_table.rs"}
@@ -93,7 +95,8 @@ def build():
         stamp.unlink(missing_ok=True)
         lay_out(files)
         quiet = {**os.environ, "RUSTFLAGS": "--cap-lints allow"}
-        subprocess.run(["cargo", "build", "--quiet", "--release", "--offline", "--target-dir", TARGET / "cargo"], cwd=main, env=quiet, check=True)
+        words = ["cargo", "build", "--quiet", "--release", "--offline", "--target-dir", TARGET / "cargo"]
+        subprocess.run(words, cwd=main, env=quiet, check=True)
         shutil.copy(TARGET / "cargo" / "release" / "oracle", PROGRAM)
         stamp.write_text(digest)
     return PROGRAM
@@ -101,7 +104,8 @@ def build():
 
 def ask(program, table, frames):
     """The real front end's answers to (architecture, text): (0 or the kind of its error, count, programs by name)."""
-    data = struct.pack("<I", len(table)) + table + b"".join(struct.pack("<II", architecture, len(text)) + text for architecture, text in frames)
+    asked = b"".join(struct.pack("<II", architecture, len(text)) + text for architecture, text in frames)
+    data = struct.pack("<I", len(table)) + table + asked
     output = subprocess.run([str(program)], input=data, stdout=subprocess.PIPE, check=True).stdout
     answers, at = [], 0
     for _ in frames:

@@ -1,8 +1,8 @@
 #!/usr/bin/env python3
 """JSON texts put to the model of our reader and to the real front end of seccompiler 0.5.0: taken or refused alike, and the same programs,
-byte for byte, but for the differences that differences.py foretells, each of which must occur. The model itself is held against the answers
-that the definitions compute and against stored cases, places included. Where the archive has the proved reader, it is held against the model.
-Where the real front end cannot be built, it is not asked, and the last line counts that as skipped.
+byte for byte, but for the differences that differences.py foretells, each of which must occur. The model itself is held against the
+answers that the definitions compute and against stored cases, places included. Where the archive has the proved reader, it is held
+against the model. Where the real front end cannot be built, it is not asked, and the last line counts that as skipped.
 
     run.py [--seed N] [--texts N]"""
 import argparse
@@ -73,7 +73,8 @@ def strings():
     yield from (text for text in taken + refused if text.startswith(b'"'))
     for byte in range(256):
         each = bytes([byte])
-        yield from (b'"' + each + b'"', b'"a' + each + b'z"', b'"\\' + each + b'"', b'"\\u00' + each + b'0"', b'"\\ud8' + each + b'0\\udc00"')
+        yield from (b'"' + each + b'"', b'"a' + each + b'z"', b'"\\' + each + b'"')
+        yield from (b'"\\u00' + each + b'0"', b'"\\ud8' + each + b'0\\udc00"')
     for lead, second in itertools.product(range(0x80, 0x100), (0x22, 0x7f, 0x80, 0x8f, 0x90, 0x9f, 0xa0, 0xbf, 0xc0)):
         yield from (b'"' + bytes([lead, second]) + tail + b'"' for tail in (b"", b"\x80", b"\x80\x80"))
     yield from map(escaped, (b"read", b"read\0", b"args", b"comment", b"syscall", b"trap", b"eq"))
@@ -153,10 +154,11 @@ def check_real(tally, oracle, frames, answers):
 
 
 def check_product(tally, frames, answers):
-    """The proved reader against the model."""
-    found = product.ask(product.build(), names.table(), frames)
-    for (_, text), answer, said in zip(frames, answers, found):
-        tally.check(product.expected(*answer) == said, f"the model says {answer[:2]}, the reader {said[:2]} of {text[:300]}")
+    """The proved reader against the model, also for native numbers only, which the real front end does not know."""
+    flagged = [(model.set_model.native_only(architecture), text) for architecture, text in frames[::7]]
+    asked, expected = frames + flagged, answers + [answer(*frame) for frame in flagged]
+    for (_, text), ours, said in zip(asked, expected, product.ask(product.build(), names.table(), asked)):
+        tally.check(product.expected(*ours) == said, f"the model says {ours[:2]}, the reader {said[:2]} of {text[:300]}")
 
 
 def main():

@@ -1,10 +1,10 @@
 // The oracle: answers JSON texts with the real front end and compiler of seccompiler 0.5.0. It exists to be compared with; nothing of it is
 // part of the product.
 //
-// Standard input: the table of call names (length, slots of 32 bytes), then frames of (architecture, text length, text). Standard output, for
-// each: what became of it (0 taken; else the kind of the real error, see `kind`), and how many filters or, for a filter that is too long, how
-// many instructions; if it was taken, for each filter in the order of their names: (name length, program length in bytes), name, program.
-// All numbers have 4 bytes, lowest byte first.
+// Standard input: the table of call names (length, slots of 32 bytes), then frames of (architecture, text length, text). Standard output,
+// for each: what became of it (0 taken; else the kind of the real error, see `kind`), and how many filters or, for a filter that is too
+// long, how many instructions; if it was taken, for each filter in the order of their names: (name length, program length in bytes), name,
+// program. All numbers have 4 bytes, lowest byte first.
 
 mod backend;
 mod frontend {

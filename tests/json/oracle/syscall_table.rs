@@ -1,5 +1,5 @@
-// The numbers of calls by their names, from the table that the test lends, in the place of the tables that seccompiler carries: both sides of
-// the comparison know the same calls.
+// The numbers of calls by their names, from the table that the test lends, in the place of the tables that seccompiler carries: both sides
+// of the comparison know the same calls.
 
 use std::collections::HashMap;
 use std::sync::OnceLock;
