@@ -113,8 +113,8 @@ class Draw:
         return self.shuffled(members)
 
     def filters(self):
-        names = {self.any_string() for _ in range(self.random.choice((0, 1, 1, 1, 2, 3)))}
-        return ["object", [[name, self.filter()] for name in sorted(names)]]
+        names = dict.fromkeys(self.any_string() for _ in range(self.random.choice((0, 1, 1, 1, 2, 3))))
+        return ["object", [[name, self.filter()] for name in names]]
 
     # ---- printed
 
