@@ -17,7 +17,7 @@ use Rattle.json_theorems.specs.Turns.{openThere, fieldThere, colonThere,
 abbrev pub onward : {P : Type 0} → ℕ → (P → List ℕ → Got P) → P → List ℕ → Got P
 onward bracket turns p rest = follow (moreThere bracket rest) (λ more next. cond more (turns p next) (got p next))
 
-onward-is : {P : Type 0} (bracket : ℕ) (turns : P → List ℕ → Got P) (p : P) (rest : List ℕ)
+pub onward-is : {P : Type 0} (bracket : ℕ) (turns : P → List ℕ → Got P) (p : P) (rest : List ℕ)
     → cond (eqb (first (blanks rest)) 0x2c) (turns p (drop 1 (blanks rest))) (ended bracket p (blanks rest)) ≡ onward bracket turns p rest
 unfolding moreThere
 onward-is bracket turns p rest = go (eqb (first (blanks rest)) 0x2c) (eqb (first (blanks rest)) bracket)
