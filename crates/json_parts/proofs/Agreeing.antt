@@ -2,17 +2,17 @@
 use mathlib.Core.Path.{_≡_, refl, ap, sym, _∙_}
 use mathlib.Core.Bool.{Bool, true, false, cond, _&&_}
 use mathlib.Core.List.{List, [], _∷_}
-use mathlib.Core.Option.{Option, none, some}
-use Prim.Native.Nat.{ℕ, zero, suc, _+_, _≤_, _<_}
+use mathlib.Core.Option.{none, some}
+use Prim.Native.Nat.{ℕ, suc, _+_, _≤_}
 use native.Mathlib.Omega.{arith}
 use lib.Dec.{eqb, leb}
 use lib.ListN.{length, take, drop, getD, length-drop}
 use lib.Seq.{drop-drop}
 use borrow.Author.Tests.{leb-true, eqb-true, eqb-false, eq-eqb, ne-eqb}
-use Rattle.definitions.specs.Json.{ascii, all, Json, null}
+use Rattle.definitions.specs.Json.{ascii, all, null}
 use Rattle.definitions.specs.JsonForm.{same}
-use Rattle.definitions.specs.JsonReader.{Got, got, stop, notJson, follow, first, apart, literalAt}
-use Rattle.definitions.specs.FormReader.{putIn, stringThere, nullOr}
+use Rattle.definitions.specs.JsonReader.{got, stop, notJson, follow, apart, literalAt}
+use Rattle.definitions.specs.FormReader.{stringThere, nullOr}
 use Rattle.json_theorems.proofs.Tests.{both-true}
 use Rattle.json_numbers.proofs.Counting.{first-at}
 use Rattle.json_scan.specs.Scan.{Tells}

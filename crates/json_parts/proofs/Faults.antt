@@ -1,15 +1,14 @@
 -- Where a fault is: the number of a value of another kind, and the byte with which a character goes wrong. Assumes nothing.
-use mathlib.Core.Path.{_≡_, refl, ap, sym, _∙_}
+use mathlib.Core.Path.{_≡_, refl}
 use mathlib.Core.Bool.{Bool, cond, not, _&&_, _||_}
 use mathlib.Core.List.{List}
 use mathlib.Core.Option.{Option, none, some}
-use Prim.Native.Nat.{ℕ, _≤_, _<_, _+_}
-use native.Mathlib.Omega.{arith}
+use Prim.Native.Nat.{ℕ, _≤_, _+_}
 use lib.Dec.{eqb, leb}
 use lib.ListN.{length, drop, getD}
 use lib.Seq.{getD-drop}
 use Rattle.definitions.specs.Json.{quote, backslash, within, isDigit, hexDigit}
-use Rattle.definitions.specs.JsonReader.{first, hexValue, escapeBad, plainBad, badCharacter}
+use Rattle.definitions.specs.JsonReader.{hexValue, escapeBad, plainBad, badCharacter}
 use Rattle.definitions.specs.FormReader.{wrong}
 use Rattle.json_numbers.proofs.Counting.{first-at}
 use Rattle.json_scan.specs.Scan.{orElse, At}

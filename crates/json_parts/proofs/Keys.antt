@@ -1,5 +1,5 @@
 -- Keys: the field that a key gives, by the key's numbers. Assumes nothing.
-use mathlib.Core.Path.{_≡_, refl, ap, sym, _∙_}
+use mathlib.Core.Path.{_≡_, refl, ap, _∙_}
 use mathlib.Core.Bool.{Bool, true, false, cond}
 use mathlib.Core.List.{List}
 use mathlib.Core.Option.{Option, none, some}
@@ -9,7 +9,7 @@ use lib.Dec.{eqb}
 use lib.ListN.{drop}
 use Rattle.definitions.specs.Json.{quote}
 use Rattle.definitions.specs.JsonForm.{Key, fieldOf, conditionKeys, lineKeys, filterKeys}
-use Rattle.definitions.specs.JsonReader.{Got, got, stop, notJson, follow, first, stringAt, placed, badCharacter}
+use Rattle.definitions.specs.JsonReader.{stop, notJson, follow, first, stringAt, placed, badCharacter}
 use Rattle.definitions.specs.FormReader.{notOfForm, orStop}
 use Rattle.json_theorems.specs.Turns.{fieldThere}
 use Rattle.json_scan.specs.Scan.{Tells}

@@ -1,19 +1,19 @@
 -- Numbers that are digits alone, told by places. Assumes nothing.
 use mathlib.Core.Path.{_≡_, refl, ap, sym, _∙_}
-use mathlib.Core.Bool.{Bool, true, false, cond, _&&_, _||_}
-use mathlib.Core.List.{List, [], _∷_, _++_}
+use mathlib.Core.Bool.{Bool, true, false, _||_}
+use mathlib.Core.List.{List, _++_}
 use mathlib.Core.Option.{Option, none, some}
-use Prim.Native.Nat.{ℕ, zero, suc, _+_, _-_, _≤_, _<_}
+use Prim.Native.Nat.{ℕ, _+_, _-_, _≤_}
 use native.Mathlib.Omega.{arith}
 use native.Mathlib.Numerals.{add-one}
-use lib.Dec.{eqb, leb}
+use lib.Dec.{eqb}
 use lib.ListN.{length, take, drop, getD, length-append, length-take}
 use lib.Seq.{drop-drop}
-use Rattle.definitions.specs.Format.{then, check}
-use Rattle.definitions.specs.Json.{all, isDigit, number, Number, spelled, Whole, nought, positive}
-use Rattle.definitions.specs.JsonForm.{decimal, natural}
-use Rattle.definitions.specs.JsonReader.{Got, got, stop, notJson, follow, first, signCount, wholeCount, fractionCount, exponentSign, exponentCount, numberCount, badExponent, badFraction, badWhole, badNumber}
-use Rattle.definitions.specs.FormReader.{notOfForm, wrong, onNumber, numberThere, made, answered, judged, naturalThere}
+use Rattle.definitions.specs.Format.{then}
+use Rattle.definitions.specs.Json.{isDigit, number, Number, spelled, Whole, nought, positive}
+use Rattle.definitions.specs.JsonForm.{natural}
+use Rattle.definitions.specs.JsonReader.{got, stop, notJson, signCount, wholeCount, fractionCount, exponentCount, numberCount, badExponent, badFraction, badWhole, badNumber}
+use Rattle.definitions.specs.FormReader.{notOfForm, wrong, numberThere, made, answered, judged, naturalThere}
 use Rattle.json_theorems.proofs.Tests.{false-not-true, none-not-some}
 use Rattle.json_theorems.proofs.Numbers.{number-sound}
 use Rattle.json_scan.specs.declared.Place.{Place}

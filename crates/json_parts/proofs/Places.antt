@@ -1,21 +1,21 @@
 -- Places of the text: how a part that was read, or a fault, is told by them. Assumes nothing.
 use mathlib.Core.Path.{_≡_, refl, ap, sym, _∙_}
 use mathlib.Core.Bool.{Bool, true, false, cond}
-use mathlib.Core.List.{List, [], _∷_, _++_}
+use mathlib.Core.List.{List, [], _++_}
 use mathlib.Core.Option.{Option, none, some}
 use Prim.Native.Nat.{ℕ, zero, suc, _+_, _-_, _≤_, _<_}
 use native.Mathlib.Omega.{arith}
 use lib.Dec.{eqb}
-use lib.ListN.{length, take, drop, getD, length-append, length-drop, drop-of-length-le}
+use lib.ListN.{length, drop, getD, length-append, length-drop, drop-of-length-le}
 use lib.Seq.{drop-drop, drop-length}
 use borrow.Author.Tests.{eq-eqb, ne-eqb}
 use Rattle.definitions.specs.Json.{quote, Characters, closed, another}
-use Rattle.definitions.specs.JsonReader.{Got, got, stop, notJson, follow, first, blanks, ended, Piece, character, onPiece, characters, stringAt, placed, badCharacter}
-use Rattle.definitions.specs.FormReader.{wrong, stringThere, putIn}
+use Rattle.definitions.specs.JsonReader.{Got, got, stop, notJson, follow, first, blanks, Piece, character, onPiece, characters, stringAt, placed, badCharacter}
+use Rattle.definitions.specs.FormReader.{wrong, stringThere}
 use Rattle.json_theorems.specs.Turns.{openThere, colonThere, moreThere}
 use Rattle.json_theorems.proofs.Strings.{string-sound}
 use Rattle.json_theorems.proofs.Parts.{blanks-sound}
-use Rattle.json_numbers.proofs.Counting.{first-at, inside}
+use Rattle.json_numbers.proofs.Counting.{first-at}
 use Rattle.json_scan.specs.Scan.{At, Either, Tells}
 use Rattle.json_theorems.specs.Turns.{keyString}
 
@@ -30,7 +30,7 @@ pub tells-stop : {A : Type 0} {text : List ℕ} {from code at k : ℕ} {Is : A �
 tells-stop {text = text} {from} {code} {at} {k} {Is} {g} {rest} e c f p = record { tells = rw e (record { told = c; some = (omega arith); place = p }) }
 
 -- a part that begins later
-pub earlier : {A : Type 0} {text : List ℕ} {from from' code at : ℕ} {Is : A → Type 0} {g : Got A} → from ≤ from' → Tells text from' Is g code at → Tells text from Is g code at
+earlier : {A : Type 0} {text : List ℕ} {from from' code at : ℕ} {Is : A → Type 0} {g : Got A} → from ≤ from' → Tells text from' Is g code at → Tells text from Is g code at
 earlier {text = text} {from} {from'} {code} {at} {Is} {g} h t = record { tells = go g (t .tells) }
   where
     go : (g' : Got _) → Either text from' Is g' code at → Either text from Is g' code at
@@ -52,7 +52,7 @@ pub here : (text : List ℕ) (at : ℕ) → at ≤ length text → At text (drop
 here text at h = record { inside = h; behind = refl }
 
 -- how far a place is from the end
-pub at-length : {text rest : List ℕ} {at : ℕ} → At text rest at → at + length rest ≡ length text
+at-length : {text rest : List ℕ} {at : ℕ} → At text rest at → at + length rest ≡ length text
 at-length {text = text} {rest} {at} p = let i = p .inside in rw (← p .behind) (omega (arith, length-drop at text))
 
 -- n bytes on, or the end where there are fewer
@@ -107,7 +107,7 @@ characters-long : {bs s : List ℕ} → Characters bs s → 1 ≤ length bs
 characters-long closed = omega arith
 characters-long (another {c = c} {bs = bs} x y) = let h = characters-long y in rw (length-append c bs) (omega arith)
 
-pub string-on : (l s rest : List ℕ) → stringAt l ≡ got s rest → length rest < length l
+string-on : (l s rest : List ℕ) → stringAt l ≡ got s rest → length rest < length l
 string-on l s rest e =
     let t = string-sound l s rest e in
     let h = characters-long (t .spelled) in
@@ -134,7 +134,7 @@ stopped-with (suc n) l k rest e = go (λ m j r. stopped-with n m j r) (eqb (firs
     go ih false none f h = cc
     go ih false (some p) f h = after ih p (characters n (drop (p .used) l)) refl h
 
-pub refused-with : (l : List ℕ) (k : ℕ) (rest : List ℕ) → stringAt l ≡ stop k rest → k ≡ notJson
+refused-with : (l : List ℕ) (k : ℕ) (rest : List ℕ) → stringAt l ≡ stop k rest → k ≡ notJson
 unfolding stringAt
 refused-with l k rest e = stopped-with (length l) l k rest e
 

@@ -1,11 +1,11 @@
 -- What skipping a string and decoding it give, told by places. Assumes nothing.
 use mathlib.Core.Path.{_≡_, refl, ap, sym, _∙_}
 use mathlib.Core.Bool.{true, false}
-use mathlib.Core.List.{List, _++_}
+use mathlib.Core.List.{List}
 use Prim.Native.Nat.{ℕ, _≤_}
-use lib.ListN.{length, take, drop, replicate}
+use lib.ListN.{length, drop, replicate}
 use lib.Seq.{sets}
-use Rattle.definitions.specs.Word.{numberAt, AreBytes}
+use Rattle.definitions.specs.Word.{numberAt}
 use Rattle.definitions.specs.JsonReader.{Got, got, stop, stringAt, placed, badCharacter}
 use Rattle.json_theorems.proofs.Tests.{false-not-true}
 use Rattle.json_scan.specs.declared.Place.{Place}

@@ -3,17 +3,17 @@
 use mathlib.Core.Path.{_≡_, refl, ap, sym, _∙_}
 use mathlib.Core.Bool.{Bool, true, false, cond, _&&_}
 use mathlib.Core.List.{List, [], _∷_, _++_}
-use mathlib.Core.Option.{Option, none, some}
-use Prim.Native.Nat.{ℕ, zero, suc, _+_, _≤_, _<_}
+use mathlib.Core.Option.{some}
+use Prim.Native.Nat.{ℕ, zero, suc, _+_, _≤_}
 use Prim.Native.String.{String}
 use native.Mathlib.Omega.{arith}
 use lib.Dec.{eqb, leb}
-use lib.ListN.{length, take, drop, getD, replicate, length-append, length-take, length-replicate, drop-of-length-le}
-use lib.Seq.{take-take, take-append-seam, sets}
+use lib.ListN.{length, take, drop, replicate, length-append, length-take, length-replicate, drop-of-length-le}
+use lib.Seq.{take-take, take-append-seam}
 use borrow.Author.Tests.{leb-true, eqb-true, eq-eqb}
-use Rattle.definitions.specs.Word.{bytesOf, numberOf, numberAt, AreBytes}
+use Rattle.definitions.specs.Word.{bytesOf, AreBytes}
 use Rattle.definitions.specs.Json.{ascii, all}
-use Rattle.definitions.specs.JsonForm.{same, Key, fieldOf, conditionKeys, lineKeys, filterKeys}
+use Rattle.definitions.specs.JsonForm.{same, Key, fieldOf}
 use Rattle.theorems.proofs.Words.{number-drop}
 use Rattle.json_theorems.proofs.Tests.{false-not-true, both-true}
 use Rattle.json_theorems.proofs.Values.{same-true}

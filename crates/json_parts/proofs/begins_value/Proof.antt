@@ -1,44 +1,31 @@
 use borrow.Author.Needs.{needs}
 use Rattle.json_parts.proofs.begins_value.Statement.{statement}
 use Rattle.json_parts.proofs.begins_value.Tie as tie
-use Rattle.json_parts.proofs.begins_value.Reads as reads
-use Rattle.json_parts.proofs.begins_value.Lts as lts
-use Rattle.json_numbers.proofs.is_digit.Reads as is-digit-reads
-use Rattle.json_scan.proofs.either.Reads as either-reads
 
--- src/lib.rt:72:25
 is-digit-requires : tie.Need-is-digit-requires
 is-digit-requires c κs = search needs
 
--- src/lib.rt:73:54
 either-requires : tie.Need-either-requires
 either-requires c κs = search needs
 
--- src/lib.rt:73:25
 either-requires-2 : tie.Need-either-requires-2
 either-requires-2 c κs = search needs
 
--- src/lib.rt:71:21
 either-requires-3 : tie.Need-either-requires-3
 either-requires-3 c κs = search needs
 
--- src/lib.rt:69:17
 either-requires-4 : tie.Need-either-requires-4
 either-requires-4 c κs = search needs
 
--- src/lib.rt:67:13
 either-requires-5 : tie.Need-either-requires-5
 either-requires-5 c κs = search needs
 
--- src/lib.rt:65:9
 either-requires-6 : tie.Need-either-requires-6
 either-requires-6 c κs = search needs
 
--- src/lib.rt:63:5
 either-requires-7 : tie.Need-either-requires-7
 either-requires-7 c κs = search needs
 
--- src/lib.rt:60:1
 returns : tie.Need-returns
 returns c = cc
 

@@ -1,4 +1,4 @@
-use mathlib.Core.Path.{_≡_, refl, ap, sym, _∙_}
+use mathlib.Core.Path.{refl, sym, _∙_}
 use native.Mathlib.Omega.{arith}
 use denote.Ref.{now}
 use Rattle.json_parts.proofs.Places as laws
@@ -6,41 +6,28 @@ use Rattle.json_parts.proofs.Agreeing as agreeing
 use borrow.Author.Needs.{needs}
 use Rattle.json_parts.proofs.comment_there.Statement.{statement}
 use Rattle.json_parts.proofs.comment_there.Tie as tie
-use Rattle.json_parts.proofs.comment_there.Reads as reads
-use Rattle.json_parts.proofs.comment_there.Lts as lts
-use Rattle.json_parts.proofs.null_count.Reads as null-count-reads
-use Rattle.json_parts.proofs.string_there.Reads as string-there-reads
-use Rattle.json_scan.proofs.byte.Reads as byte-reads
 
--- src/lib.rt:482:8
 byte-requires : tie.Need-byte-requires
 byte-requires c κs = search needs
 
--- src/lib.rt:483:9
 string-there-requires : tie.Need-string-there-requires
 string-there-requires c κs = search needs
 
--- src/lib.rt:483:9
 returns : tie.Need-returns
 returns c = agreeing.a-string (now (c .before .before .before .before .args .text)) (c .before .before .before .before .args .at) (λ e. c .before .if1 .taken (c .before .before .byte .ensures ∙ e)) (c .string-there .ensures)
 
--- src/lib.rt:485:9
 null-count-requires : tie.Need-null-count-requires
 null-count-requires c κs = search needs
 
--- src/lib.rt:489:17
 add-t6 : tie.Need-add-t6
 add-t6 c = omega (arith, agreeing.null-on (now (c .before .before .before .before .before .args .text)) (c .before .before .before .before .before .args .at) (sym (c .before .before .before .byte .ensures) ∙ c .before .before .if1 .left) (c .before .null-count .result) (c .before .null-count .ensures) (c .before .before .before .before .before .pre .0), c .before .before .before .before .before .pre .1)
 
--- src/lib.rt:487:9
 returns-2 : tie.Need-returns-2
 returns-2 c = laws.tells-stop (agreeing.null-refused (now (c .before .before .before .before .before .args .text)) (c .before .before .before .before .before .args .at) (sym (c .before .before .before .byte .ensures) ∙ c .before .before .if1 .left) (c .before .null-count .result) (c .before .null-count .ensures) (c .if2 .taken)) refl (omega arith) (laws.further (now (c .before .before .before .before .before .args .text)) (c .before .before .before .before .before .args .at) (c .before .null-count .result) (agreeing.null-on (now (c .before .before .before .before .before .args .text)) (c .before .before .before .before .before .args .at) (sym (c .before .before .before .byte .ensures) ∙ c .before .before .if1 .left) (c .before .null-count .result) (c .before .null-count .ensures) (c .before .before .before .before .before .pre .0)))
 
--- src/lib.rt:495:13
 add-t7 : tie.Need-add-t7
 add-t7 c = search needs
 
--- src/lib.rt:478:1
 returns-3 : tie.Need-returns-3
 returns-3 c = laws.tells-got (agreeing.null-read (now (c .before .before .before .before .before .args .text)) (c .before .before .before .before .before .args .at) (sym (c .before .before .before .byte .ensures) ∙ c .before .before .if1 .left) (c .before .null-count .result) (c .before .null-count .ensures) (c .if2 .left)) refl (omega (arith, c .if2 .left)) (laws.further (now (c .before .before .before .before .before .args .text)) (c .before .before .before .before .before .args .at) (c .before .null-count .result) (agreeing.null-on (now (c .before .before .before .before .before .args .text)) (c .before .before .before .before .before .args .at) (sym (c .before .before .before .byte .ensures) ∙ c .before .before .if1 .left) (c .before .null-count .result) (c .before .null-count .ensures) (c .before .before .before .before .before .pre .0))) tt
 

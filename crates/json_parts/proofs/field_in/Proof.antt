@@ -1,6 +1,4 @@
-use mathlib.Core.Path.{_≡_, refl, ap, sym, _∙_}
-use native.Mathlib.Omega.{arith}
-use denote.Ref.{now}
+use mathlib.Core.Path.{ap, _∙_}
 use mathlib.Core.List.{List}
 use Rattle.definitions.specs.JsonForm.{Key}
 use Rattle.json_parts.specs.Words.{fieldIn}
@@ -8,33 +6,22 @@ use Rattle.json_parts.proofs.Keys as keys
 use borrow.Author.Needs.{needs}
 use Rattle.json_parts.proofs.field_in.Statement.{statement}
 use Rattle.json_parts.proofs.field_in.Tie as tie
-use Rattle.json_parts.proofs.field_in.Reads as reads
-use Rattle.json_parts.proofs.field_in.Lts as lts
-use Rattle.json_parts.proofs.condition_field.Reads as condition-field-reads
-use Rattle.json_parts.proofs.filter_field.Reads as filter-field-reads
-use Rattle.json_parts.proofs.line_field.Reads as line-field-reads
 
--- src/lib.rt:321:9
 condition-field-requires : tie.Need-condition-field-requires
 condition-field-requires c κs = search needs
 
--- src/lib.rt:321:9
 returns : tie.Need-returns
 returns c = c .condition-field .ensures ∙ ap (λ (ks : List Key). fieldIn ks (c .before .before .args .w)) (keys.of-condition _ (c .before .if1 .taken))
 
--- src/lib.rt:324:9
 line-field-requires : tie.Need-line-field-requires
 line-field-requires c κs = search needs
 
--- src/lib.rt:324:9
 returns-2 : tie.Need-returns-2
 returns-2 c = c .line-field .ensures ∙ ap (λ (ks : List Key). fieldIn ks (c .before .before .before .args .w)) (keys.of-line _ (c .before .if2 .taken))
 
--- src/lib.rt:326:5
 filter-field-requires : tie.Need-filter-field-requires
 filter-field-requires c κs = search needs
 
--- src/lib.rt:317:1
 returns-3 : tie.Need-returns-3
 returns-3 c = c .filter-field .ensures ∙ ap (λ (ks : List Key). fieldIn ks (c .before .before .before .args .w)) (keys.of-filter _ (c .before .before .if1 .left) (c .before .if2 .left))
 

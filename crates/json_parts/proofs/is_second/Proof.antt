@@ -2,53 +2,37 @@ use Rattle.definitions.specs.JsonReader.{isSecond}
 use borrow.Author.Needs.{needs}
 use Rattle.json_parts.proofs.is_second.Statement.{statement}
 use Rattle.json_parts.proofs.is_second.Tie as tie
-use Rattle.json_parts.proofs.is_second.Reads as reads
-use Rattle.json_parts.proofs.is_second.Lts as lts
-use Rattle.json_parts.proofs.choose.Reads as choose-reads
-use Rattle.json_scan.proofs.wide.Reads as wide-reads
-use Rattle.json_scan.proofs.within.Reads as within-reads
 
--- src/lib.rt:94:9
 wide-requires : tie.Need-wide-requires
 wide-requires c κs = search needs
 
--- src/lib.rt:97:9
 within-requires : tie.Need-within-requires
 within-requires c κs = search needs
 
--- src/lib.rt:100:13
 within-requires-2 : tie.Need-within-requires-2
 within-requires-2 c κs = search needs
 
--- src/lib.rt:103:17
 within-requires-3 : tie.Need-within-requires-3
 within-requires-3 c κs = search needs
 
--- src/lib.rt:106:21
 within-requires-4 : tie.Need-within-requires-4
 within-requires-4 c κs = search needs
 
--- src/lib.rt:107:21
 within-requires-5 : tie.Need-within-requires-5
 within-requires-5 c κs = search needs
 
--- src/lib.rt:104:17
 choose-requires : tie.Need-choose-requires
 choose-requires c κs = search needs
 
--- src/lib.rt:101:13
 choose-requires-2 : tie.Need-choose-requires-2
 choose-requires-2 c κs = search needs
 
--- src/lib.rt:98:9
 choose-requires-3 : tie.Need-choose-requires-3
 choose-requires-3 c κs = search needs
 
--- src/lib.rt:95:5
 choose-requires-4 : tie.Need-choose-requires-4
 choose-requires-4 c κs = search needs
 
--- src/lib.rt:91:1
 returns : tie.Need-returns
 unfolding isSecond
 returns c = cc

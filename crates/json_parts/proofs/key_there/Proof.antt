@@ -1,4 +1,4 @@
-use mathlib.Core.Path.{_≡_, refl, ap, sym, _∙_}
+use mathlib.Core.Path.{sym, _∙_}
 use native.Mathlib.Omega.{arith}
 use denote.Ref.{now}
 use Rattle.json_parts.proofs.Places as laws
@@ -6,33 +6,22 @@ use Rattle.json_numbers.proofs.Counting.{inside}
 use borrow.Author.Needs.{needs}
 use Rattle.json_parts.proofs.key_there.Statement.{statement}
 use Rattle.json_parts.proofs.key_there.Tie as tie
-use Rattle.json_parts.proofs.key_there.Reads as reads
-use Rattle.json_parts.proofs.key_there.Lts as lts
-use Rattle.json_parts.proofs.fault.Reads as fault-reads
-use Rattle.json_parts.proofs.word_behind.Reads as word-behind-reads
-use Rattle.json_scan.proofs.byte.Reads as byte-reads
 
--- src/lib.rt:241:8
 byte-requires : tie.Need-byte-requires
 byte-requires c κs = search needs
 
--- src/lib.rt:242:9
 fault-requires : tie.Need-fault-requires
 fault-requires c κs = search needs
 
--- src/lib.rt:242:9
 returns : tie.Need-returns
 returns c = laws.no-key (now (c .before .before .before .before .args .text)) (c .before .before .before .before .args .at) (λ e. c .before .if1 .taken (c .before .before .byte .ensures ∙ e)) (c .before .before .before .before .pre .0) (c .fault .ensures .0) (c .fault .ensures .1)
 
--- src/lib.rt:244:23
 add-word-behind : tie.Need-add-word-behind
 add-word-behind c = search needs
 
--- src/lib.rt:244:5
 word-behind-requires : tie.Need-word-behind-requires
 word-behind-requires c κs = (omega (arith, inside (now (c .before .before .before .args .text)) (c .before .before .before .args .at) 0x22 (sym (c .before .byte .ensures) ∙ c .if1 .left) (omega arith)), c .before .before .before .pre .1)
 
--- src/lib.rt:237:1
 returns-2 : tie.Need-returns-2
 returns-2 c = laws.key-there (now (c .before .before .before .before .args .text)) (c .before .before .before .before .args .at) (sym (c .before .before .byte .ensures) ∙ c .before .if1 .left) (c .word-behind .ensures)
 

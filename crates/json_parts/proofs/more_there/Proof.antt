@@ -1,4 +1,4 @@
-use mathlib.Core.Path.{_≡_, refl, ap, sym, _∙_}
+use mathlib.Core.Path.{refl, sym, _∙_}
 use native.Mathlib.Omega.{arith}
 use denote.Ref.{now}
 use Rattle.json_parts.proofs.Places as laws
@@ -6,36 +6,25 @@ use Rattle.json_numbers.proofs.Counting.{inside}
 use borrow.Author.Needs.{needs}
 use Rattle.json_parts.proofs.more_there.Statement.{statement}
 use Rattle.json_parts.proofs.more_there.Tie as tie
-use Rattle.json_parts.proofs.more_there.Reads as reads
-use Rattle.json_parts.proofs.more_there.Lts as lts
-use Rattle.json_scan.proofs.byte.Reads as byte-reads
-use Rattle.json_scan.proofs.skip_blanks.Reads as skip-blanks-reads
 
--- src/lib.rt:404:9
 skip-blanks-requires : tie.Need-skip-blanks-requires
 skip-blanks-requires c κs = search needs
 
--- src/lib.rt:405:9
 byte-requires : tie.Need-byte-requires
 byte-requires c κs = search needs
 
--- src/lib.rt:409:17
 add-t7 : tie.Need-add-t7
 add-t7 c = search needs
 
--- src/lib.rt:407:9
 returns : tie.Need-returns
 returns c = laws.tells-got (laws.comma-here (now (c .before .before .before .before .args .text)) (c .before .before .before .before .args .at) (c .before .before .skip-blanks .result) (c .before .before .skip-blanks .ensures) (c .before .before .before .before .args .bracket) (sym (c .before .byte .ensures) ∙ c .if1 .taken)) refl (omega (arith, laws.blanks-on (now (c .before .before .before .before .args .text)) (c .before .before .before .before .args .at) (c .before .before .skip-blanks .result) (c .before .before .before .before .pre .0) (c .before .before .skip-blanks .ensures))) (laws.further (now (c .before .before .before .before .args .text)) (c .before .before .skip-blanks .result) 1 (omega (arith, inside (now (c .before .before .before .before .args .text)) (c .before .before .skip-blanks .result) 0x2c (sym (c .before .byte .ensures) ∙ c .if1 .taken) (omega arith)))) refl
 
--- src/lib.rt:414:9
 returns-2 : tie.Need-returns-2
 returns-2 c = laws.tells-stop (laws.end-missing (now (c .before .before .before .before .before .args .text)) (c .before .before .before .before .before .args .at) (c .before .before .before .skip-blanks .result) (c .before .before .before .skip-blanks .ensures) (c .before .before .before .before .before .args .bracket) (λ e. c .before .if1 .left (c .before .before .byte .ensures ∙ e)) (λ e. c .if2 .taken (c .before .before .byte .ensures ∙ e))) refl (omega arith) (laws.here (now (c .before .before .before .before .before .args .text)) (c .before .before .before .skip-blanks .result) ((c .before .before .before .skip-blanks .ensures) .inside))
 
--- src/lib.rt:422:13
 add-t8 : tie.Need-add-t8
 add-t8 c = search needs
 
--- src/lib.rt:400:1
 returns-3 : tie.Need-returns-3
 returns-3 c = laws.tells-got (laws.end-here (now (c .before .before .before .before .before .args .text)) (c .before .before .before .before .before .args .at) (c .before .before .before .skip-blanks .result) (c .before .before .before .skip-blanks .ensures) (c .before .before .before .before .before .args .bracket) (λ e. c .before .if1 .left (c .before .before .byte .ensures ∙ e)) (sym (c .before .before .byte .ensures) ∙ c .if2 .left)) refl (omega (arith, laws.blanks-on (now (c .before .before .before .before .before .args .text)) (c .before .before .before .before .before .args .at) (c .before .before .before .skip-blanks .result) (c .before .before .before .before .before .pre .0) (c .before .before .before .skip-blanks .ensures))) (laws.further (now (c .before .before .before .before .before .args .text)) (c .before .before .before .skip-blanks .result) 1 (omega (arith, inside (now (c .before .before .before .before .before .args .text)) (c .before .before .before .skip-blanks .result) (c .before .before .before .before .before .args .bracket) (sym (c .before .before .byte .ensures) ∙ c .if2 .left) (omega (arith, c .before .before .before .before .before .pre .2))))) refl
 

@@ -1,4 +1,4 @@
-use mathlib.Core.Path.{_≡_, refl, ap, sym, _∙_}
+use mathlib.Core.Path.{refl, sym, _∙_}
 use native.Mathlib.Omega.{arith}
 use denote.Ref.{now}
 use borrow.Author.Tests.{not-true, not-false}
@@ -11,42 +11,28 @@ use Rattle.json_parts.proofs.Strings as strings
 use borrow.Author.Needs.{needs}
 use Rattle.json_parts.proofs.string_there.Statement.{statement}
 use Rattle.json_parts.proofs.string_there.Tie as tie
-use Rattle.json_parts.proofs.string_there.Reads as reads
-use Rattle.json_parts.proofs.string_there.Lts as lts
-use Rattle.json_parts.proofs.bad_character.Reads as bad-character-reads
-use Rattle.json_parts.proofs.wrong_at.Reads as wrong-at-reads
-use Rattle.json_scan.proofs.byte.Reads as byte-reads
-use Rattle.json_scan.proofs.skip_string.Reads as skip-string-reads
 
--- src/lib.rt:434:8
 byte-requires : tie.Need-byte-requires
 byte-requires c κs = search needs
 
--- src/lib.rt:436:19
 wrong-at-requires : tie.Need-wrong-at-requires
 wrong-at-requires c κs = search needs
 
--- src/lib.rt:435:9
 returns : tie.Need-returns
 returns c = laws.no-string (now (c .before .before .before .before .args .text)) (c .before .before .before .before .args .at) (λ e. c .before .if1 .taken (c .before .before .byte .ensures ∙ e)) (c .before .before .before .before .pre .0) (c .wrong-at .ensures .0) (c .wrong-at .ensures .1) refl
 
--- src/lib.rt:441:42
 add-skip-string : tie.Need-add-skip-string
 add-skip-string c = search needs
 
--- src/lib.rt:441:9
 skip-string-requires : tie.Need-skip-string-requires
 skip-string-requires c κs = ((omega (arith, inside (now (c .before .before .before .args .text)) (c .before .before .before .args .at) 0x22 (sym (c .before .byte .ensures) ∙ c .if1 .left) (omega arith))), c .before .before .before .pre .1)
 
--- src/lib.rt:446:17
 bad-character-requires : tie.Need-bad-character-requires
 bad-character-requires c κs = (strings.stands-inside (now (c .before .before .before .before .before .before .args .text)) (stringAt (drop ((c .before .before .before .before .before .before .args .at) + 1) (now (c .before .before .before .before .before .before .args .text)))) (c .before .before .skip-string .result) (c .before .before .skip-string .ensures), c .before .before .before .before .before .before .pre .1)
 
--- src/lib.rt:444:9
 returns-2 : tie.Need-returns-2
 returns-2 c = laws.string-there (now (c .before .before .before .before .before .before .before .args .text)) (c .before .before .before .before .before .before .before .args .at) (sym (c .before .before .before .before .before .byte .ensures) ∙ c .before .before .before .before .if1 .left) (strings.not-skipped (now (c .before .before .before .before .before .before .before .args .text)) ((c .before .before .before .before .before .before .before .args .at) + 1) (omega (arith, inside (now (c .before .before .before .before .before .before .before .args .text)) (c .before .before .before .before .before .before .before .args .at) 0x22 (sym (c .before .before .before .before .before .byte .ensures) ∙ c .before .before .before .before .if1 .left) (omega arith))) (c .before .before .before .skip-string .result) (c .before .before .before .skip-string .ensures) (not-true _ (c .before .if2 .taken)) (c .bad-character .ensures))
 
--- src/lib.rt:430:1
 returns-3 : tie.Need-returns-3
 returns-3 c = laws.string-there (now (c .before .before .before .before .before .before .args .text)) (c .before .before .before .before .before .before .args .at) (sym (c .before .before .before .before .byte .ensures) ∙ c .before .before .before .if1 .left) (strings.skipped (now (c .before .before .before .before .before .before .args .text)) ((c .before .before .before .before .before .before .args .at) + 1) (omega (arith, inside (now (c .before .before .before .before .before .before .args .text)) (c .before .before .before .before .before .before .args .at) 0x22 (sym (c .before .before .before .before .byte .ensures) ∙ c .before .before .before .if1 .left) (omega arith))) (c .before .before .skip-string .result) (c .before .before .skip-string .ensures) (not-false _ (c .if2 .left)))
 

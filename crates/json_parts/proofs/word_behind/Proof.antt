@@ -1,5 +1,4 @@
-use mathlib.Core.Path.{_≡_, refl, ap, sym, _∙_}
-use native.Mathlib.Omega.{arith}
+use mathlib.Core.Path.{refl}
 use denote.Ref.{now}
 use borrow.Author.Tests.{not-true, not-false}
 use lib.ListN.{drop}
@@ -8,42 +7,28 @@ use Rattle.json_parts.proofs.Strings as strings
 use borrow.Author.Needs.{needs}
 use Rattle.json_parts.proofs.word_behind.Statement.{statement}
 use Rattle.json_parts.proofs.word_behind.Tie as tie
-use Rattle.json_parts.proofs.word_behind.Reads as reads
-use Rattle.json_parts.proofs.word_behind.Lts as lts
-use Rattle.json_parts.proofs.bad_character.Reads as bad-character-reads
-use Rattle.json_parts.proofs.fault.Reads as fault-reads
-use Rattle.json_parts.proofs.packed.Reads as packed-reads
-use Rattle.json_strings.proofs.decode.Reads as decode-reads
 
--- src/lib.rt:206:44
 slice-aggregate-decode : tie.Need-slice-aggregate-decode
 slice-aggregate-decode c = search needs
 
--- src/lib.rt:206:9
 decode-requires : tie.Need-decode-requires
 decode-requires c κs = search needs
 
--- src/lib.rt:210:26
 bad-character-requires : tie.Need-bad-character-requires
 bad-character-requires c κs = (strings.stored-inside (now (c .before .before .before .before .before .before .args .text)) _ _ (stringAt (drop (c .before .before .before .before .before .before .args .at) (now (c .before .before .before .before .before .before .args .text)))) _ (c .before .before .before .decode .ensures), c .before .before .before .before .before .before .pre .1)
 
--- src/lib.rt:210:9
 fault-requires : tie.Need-fault-requires
 fault-requires c κs = search needs
 
--- src/lib.rt:210:9
 returns : tie.Need-returns
 returns c = strings.not-kept (now (c .before .before .before .before .before .before .before .before .args .text)) (c .before .before .before .before .before .before .before .before .args .at) (c .before .before .before .before .before .before .before .before .pre .0) _ _ _ (c .before .before .before .before .before .decode .ensures) (not-true _ (c .before .before .if1 .taken)) (c .before .bad-character .ensures) (c .fault .ensures .0) (c .fault .ensures .1)
 
--- src/lib.rt:212:12
 slice-aggregate-packed : tie.Need-slice-aggregate-packed
 slice-aggregate-packed c = search needs
 
--- src/lib.rt:212:5
 packed-requires : tie.Need-packed-requires
 packed-requires c κs = search needs
 
--- src/lib.rt:201:1
 returns-2 : tie.Need-returns-2
 returns-2 c = strings.kept-word (now (c .before .before .before .before .before .before .before .before .args .text)) (c .before .before .before .before .before .before .before .before .args .at) (c .before .before .before .before .before .before .before .before .pre .0) _ _ _ (c .before .before .before .before .before .decode .ensures) _ refl (not-false _ (c .before .before .if1 .left)) (c .packed .ensures)
 

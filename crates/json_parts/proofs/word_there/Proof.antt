@@ -1,4 +1,4 @@
-use mathlib.Core.Path.{_≡_, refl, ap, sym, _∙_}
+use mathlib.Core.Path.{sym, _∙_}
 use native.Mathlib.Omega.{arith}
 use denote.Ref.{now}
 use Rattle.json_parts.proofs.Places as laws
@@ -6,38 +6,25 @@ use Rattle.json_numbers.proofs.Counting.{inside}
 use borrow.Author.Needs.{needs}
 use Rattle.json_parts.proofs.word_there.Statement.{statement}
 use Rattle.json_parts.proofs.word_there.Tie as tie
-use Rattle.json_parts.proofs.word_there.Reads as reads
-use Rattle.json_parts.proofs.word_there.Lts as lts
-use Rattle.json_parts.proofs.fault.Reads as fault-reads
-use Rattle.json_parts.proofs.word_behind.Reads as word-behind-reads
-use Rattle.json_parts.proofs.wrong_at.Reads as wrong-at-reads
-use Rattle.json_scan.proofs.byte.Reads as byte-reads
 
--- src/lib.rt:230:8
 byte-requires : tie.Need-byte-requires
 byte-requires c κs = search needs
 
--- src/lib.rt:231:22
 wrong-at-requires : tie.Need-wrong-at-requires
 wrong-at-requires c κs = search needs
 
--- src/lib.rt:231:9
 fault-requires : tie.Need-fault-requires
 fault-requires c κs = search needs
 
--- src/lib.rt:231:9
 returns : tie.Need-returns
 returns c = laws.no-string (now (c .before .before .before .before .before .args .text)) (c .before .before .before .before .before .args .at) (λ e. c .before .before .if1 .taken (c .before .before .before .byte .ensures ∙ e)) (c .before .before .before .before .before .pre .0) (c .fault .ensures .0 ∙ c .before .wrong-at .ensures .0) (rw (c .fault .ensures .0) (c .before .wrong-at .ensures .1)) (c .fault .ensures .1)
 
--- src/lib.rt:233:23
 add-word-behind : tie.Need-add-word-behind
 add-word-behind c = search needs
 
--- src/lib.rt:233:5
 word-behind-requires : tie.Need-word-behind-requires
 word-behind-requires c κs = (omega (arith, inside (now (c .before .before .before .args .text)) (c .before .before .before .args .at) 0x22 (sym (c .before .byte .ensures) ∙ c .if1 .left) (omega arith)), c .before .before .before .pre .1)
 
--- src/lib.rt:226:1
 returns-2 : tie.Need-returns-2
 returns-2 c = laws.string-there (now (c .before .before .before .before .args .text)) (c .before .before .before .before .args .at) (sym (c .before .before .byte .ensures) ∙ c .before .if1 .left) (c .word-behind .ensures)
 

@@ -1,29 +1,21 @@
 use mathlib.Core.Bool.{Bool, cond}
-use mathlib.Core.Path.{_≡_, refl, ap, sym, _∙_}
+use mathlib.Core.Path.{ap, sym, _∙_}
 use native.Mathlib.Omega.{arith}
 use denote.Ref.{now}
 use Rattle.json_parts.proofs.Faults as laws
 use borrow.Author.Needs.{needs}
 use Rattle.json_parts.proofs.wrong_at.Statement.{statement}
 use Rattle.json_parts.proofs.wrong_at.Tie as tie
-use Rattle.json_parts.proofs.wrong_at.Reads as reads
-use Rattle.json_parts.proofs.wrong_at.Lts as lts
-use Rattle.json_parts.proofs.begins_value.Reads as begins-value-reads
-use Rattle.json_scan.proofs.byte.Reads as byte-reads
 
--- src/lib.rt:85:21
 byte-requires : tie.Need-byte-requires
 byte-requires c κs = search needs
 
--- src/lib.rt:85:8
 begins-value-requires : tie.Need-begins-value-requires
 begins-value-requires c κs = search needs
 
--- src/lib.rt:86:9
 returns : tie.Need-returns
 returns c = (sym (ap (λ (t : Bool). cond t 11 10) (c .if1 .taken)) ∙ (laws.wrong-is (now (c .before .before .before .before .args .text)) (c .before .before .before .before .args .at) _ _ (c .before .before .byte .ensures) (c .before .begins-value .ensures)), omega arith)
 
--- src/lib.rt:82:1
 returns-2 : tie.Need-returns-2
 returns-2 c = (sym (ap (λ (t : Bool). cond t 11 10) (c .if1 .left)) ∙ (laws.wrong-is (now (c .before .before .before .before .args .text)) (c .before .before .before .before .args .at) _ _ (c .before .before .byte .ensures) (c .before .begins-value .ensures)), omega arith)
 
