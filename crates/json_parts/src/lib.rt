@@ -38,6 +38,7 @@ pub struct Word {
     pub high: u64,
 }
 
+// One of two numbers.
 fn pick(first: bool, a: u64, b: u64) -> u64
     ensures { λ r. ⌜ r ≡ cond first a b ⌝ }
 {
@@ -47,6 +48,7 @@ fn pick(first: bool, a: u64, b: u64) -> u64
     b
 }
 
+// One of two answers.
 fn choose(first: bool, a: bool, b: bool) -> bool
     ensures { λ r. ⌜ r ≡ cond first a b ⌝ }
 {
@@ -58,6 +60,7 @@ fn choose(first: bool, a: bool, b: bool) -> bool
 
 // ---- faults
 
+// Whether a value can begin with a byte.
 fn begins_value(b: u8) -> bool
     ensures { λ r. ⌜ r ≡ (eqb b quote || (eqb b 0x7b || (eqb b 0x5b || (eqb b 0x2d || (isDigit b || (eqb b 0x6e || (eqb b 0x74 || eqb b 0x66))))))) ⌝ }
 {
@@ -89,6 +92,7 @@ fn wrong_at(text: &[u8], at: usize) -> u32
     10
 }
 
+// Whether a byte can follow the first one of a character of several.
 fn is_second(a: u8, b: u8) -> bool
     ensures { λ r. ⌜ r ≡ isSecond a b ⌝ }
 {
@@ -112,6 +116,7 @@ fn is_second(a: u8, b: u8) -> bool
     )
 }
 
+// How many bytes of what is no character could begin one.
 fn plain_bad(text: &[u8], at: usize) -> u64
     requires { ⌜ (at ≤ length (now text)) × (length (now text) ≤ 1048576) ⌝ }
     ensures { λ r. ⌜ r ≡ plainBad (drop at (now (text .entry))) ⌝ }
@@ -124,26 +129,28 @@ fn plain_bad(text: &[u8], at: usize) -> u64
     pick(!lead, 0, pick(!is_second(a, b), 1, pick(!tail, 2, 3)))
 }
 
+// The value of the hexadecimal digit at a place; 16 where it is none.
 fn digit_at(text: &[u8], at: usize) -> u32
     ensures { λ r. ⌜ r ≡ hexValue (hexDigit (getD (now (text .entry)) at 0)) ⌝ }
 {
     json_scan::digit_of(json_scan::byte(text, at))
 }
 
+// How many bytes of an escape that is none could begin one. All are looked at, since this is asked at most once of a text.
 fn escape_bad(text: &[u8], at: usize) -> u64
     requires { ⌜ (at ≤ length (now text)) × (length (now text) ≤ 1048576) ⌝ }
     ensures { λ r. ⌜ r ≡ escapeBad (drop at (now (text .entry))) ⌝ }
 {
-    let h = digit_at(text, at + 2);
-    let i = digit_at(text, at + 3);
-    let p = digit_at(text, at + 8);
-    let q = digit_at(text, at + 9);
-    let low = json_scan::both(h == 13, 12 <= i);
+    let lead = digit_at(text, at + 2);
+    let next = digit_at(text, at + 3);
+    let low_lead = digit_at(text, at + 8);
+    let low_next = digit_at(text, at + 9);
+    let low = json_scan::both(lead == 13, 12 <= next);
     let second = pick(
-        !(p == 13),
+        !(low_lead == 13),
         8,
         pick(
-            !json_scan::within(12, 15, q),
+            !json_scan::within(12, 15, low_next),
             9,
             pick(16 <= digit_at(text, at + 10), 10, 11),
         ),
@@ -161,7 +168,11 @@ fn escape_bad(text: &[u8], at: usize) -> u64
     pick(
         !(json_scan::byte(text, at + 1) == 0x75),
         1,
-        pick(16 <= h, 2, pick(json_scan::either(16 <= i, low), 3, first)),
+        pick(
+            16 <= lead,
+            2,
+            pick(json_scan::either(16 <= next, low), 3, first),
+        ),
     )
 }
 
@@ -183,6 +194,19 @@ fn bad_character(text: &[u8], at: usize) -> usize
 }
 
 // ---- words
+
+// No word: a fault, and its place.
+fn fault(code: u32, at: usize) -> Word
+    ensures { λ r. ⌜ (r .code ≡ code) × (r .at ≡ at) ⌝ }
+{
+    Word {
+        code: code,
+        at: at,
+        count: 0,
+        low: 0,
+        high: 0,
+    }
+}
 
 // The word that 16 bytes keep.
 fn packed(kept: &[u8], count: usize, at: usize) -> Word
@@ -211,18 +235,6 @@ fn word_behind(text: &[u8], at: usize) -> Word
         return fault(10, bad_character(text, place));
     }
     packed(&kept, count, place)
-}
-
-fn fault(code: u32, at: usize) -> Word
-    ensures { λ r. ⌜ (r .code ≡ code) × (r .at ≡ at) ⌝ }
-{
-    Word {
-        code: code,
-        at: at,
-        count: 0,
-        low: 0,
-        high: 0,
-    }
 }
 
 // A string where a value stands.
