@@ -1,4 +1,4 @@
--- A buffer into which bytes are put, seen from a part of it: what stands in front, what stands behind, and bytes put inside others.
+-- A buffer into which bytes are put, seen from a part of it: what stands in front, what stands behind, and bytes that are there already.
 use mathlib.Core.Path.{_≡_, refl, ap, sym, _∙_}
 use mathlib.Core.List.{List, _++_, append-assoc}
 use Prim.Native.Nat.{ℕ, _+_, _≤_}
@@ -7,7 +7,6 @@ use native.Mathlib.Omega.{arith}
 use lib.ListN.{length, take, drop, length-take, take-append-drop}
 use lib.Seq.{take-at, drop-at, take-take, take-append-le, drop-append-le, drop-drop, take-add}
 use Rattle.bpf.specs.Place.{place}
-use Rattle.bpf.proofs.Buffer.{drop-place}
 
 -- what stands in front is as it was
 pub take-place : (l : List ℕ) (at n : ℕ) (bs : List ℕ) → n ≤ at → at ≤ length l → take n (place l at bs) ≡ take n l
@@ -24,16 +23,6 @@ place-behind l n at bs h =
     let front : length (take n l) ≡ n = simp length-take (omega arith) in
     let part : drop n (take (n + at) l) ≡ take at (drop n l) = rw (take-add n at l) (drop-at (take n l) (take at (drop n l)) n front) in
     rw (append-assoc, drop-append-le n (take (n + at) l) (bs ++ drop (n + at + length bs) l) (omega arith), part, drop-drop, add-assoc, append-assoc)
-
-placed-alike : (l m : List ℕ) (at : ℕ) (bs : List ℕ) → take at m ≡ take at l → drop (at + length bs) m ≡ drop (at + length bs) l → place m at bs ≡ place l at bs
-unfolding place
-placed-alike l m at bs t d = rw (t, d)
-
--- bytes that are put over others leave nothing of them
-pub place-covered : (l : List ℕ) (at next : ℕ) (a b : List ℕ) → at ≤ next → next + length b ≤ at + length a → at + length a ≤ length l
-    → place (place l next b) at a ≡ place l at a
-place-covered l at next a b h k r =
-    placed-alike l (place l next b) at a (take-place l next at b h (omega arith)) (drop-place l next (at + length a) b k r)
 
 -- bytes that are there already change nothing
 pub place-there : (l : List ℕ) (at : ℕ) (bs : List ℕ) → take (length bs) (drop at l) ≡ bs → place l at bs ≡ l

@@ -1,5 +1,6 @@
 -- The loop that writes the lines in the order of their keys: what stands in front of the last entry, with what the last entry and the lines
--- that are left come to, is the whole. Only `extended-is` knows how rules of one number are put together. Assumes nothing.
+-- that are left come to, is the whole. How rules of one number are put together is known to `extended-is` and
+-- its length alone. Assumes nothing.
 use mathlib.Core.Path.{_≡_, refl, ap, sym, _∙_}
 use mathlib.Core.Bool.{Bool, true, false}
 use mathlib.Core.List.{List, [], _∷_, _++_, map, append-assoc, append-nil}
@@ -50,7 +51,7 @@ module _ (s : List ℕ) (from entry end : ℕ) (last e : Entry) (there : Stands 
       let n : pastEntry s from - (from + 8) ≡ length (joined encodeRule (e .rules)) = omega arith in
       rw n (entry-rules s from e here small')
 
-  pub length-extended : length (encodeEntry (both (how.now .join) last e)) ≡ length (encodeEntry last) + length (joined encodeRule (e .rules))
+  length-extended : length (encodeEntry (both (how.now .join) last e)) ≡ length (encodeEntry last) + length (joined encodeRule (e .rules))
   length-extended =
       length-entry (both (how.now .join) last e)
       ∙ (let j = ap length (joined-append encodeRule (last .rules) (e .rules)) in
@@ -58,7 +59,7 @@ module _ (s : List ℕ) (from entry end : ℕ) (last e : Entry) (there : Stands 
       let l = length-entry last in
       omega arith)
 
-  pub extended-is : extended s from entry end ≡ place s entry (encodeEntry (both (how.now .join) last e))
+  extended-is : extended s from entry end ≡ place s entry (encodeEntry (both (how.now .join) last e))
   unfolding encodeEntry
   extended-is =
       let number : List ℕ = bytesOf 4 (last .number) in
