@@ -17,6 +17,7 @@ use Rattle.definitions.specs.JsonForm.{same, wordOf, actionWords, numberedWords
 use Rattle.definitions.specs.JsonReader.{Got, got, stop, follow, first}
 use Rattle.definitions.specs.FormReader.{notOfForm, wrongIndex, judged, asked, putIn, wordThere, oneThere, stringThere, eitherThere, naturalThere, actionThere, operatorThere}
 use Rattle.json_scan.specs.Scan.{Either, Tells}
+use Rattle.json_scan.proofs.Telling.{came}
 
 pub record Read {A : Type 0} (text : List ℕ) (from : ℕ) (Is : A → Type 0) (g : Got A) (at : ℕ) : Type 0 where
   pub part : A
@@ -32,11 +33,9 @@ pub record Faulty {A : Type 0} (text : List ℕ) (g : Got A) (code at : ℕ) : T
 
 module _ {A : Type 0} {text : List ℕ} {from code at : ℕ} {Is : A → Type 0} {g : Got A} where
   pub read : Tells text from Is g code at → code ≡ 0 → Read text from Is g at
-  read t e = go g (t .tells)
-    where
-      go : (h : Got A) → Either text from Is h code at → Read text from Is h at
-      go (got a rest) s = record { part = a; same = ap (λ (l : List ℕ). got a l) (sym (s .place .behind)); on = s .on; inside = s .place .inside; value = s .value }
-      go (stop k rest) s = absurd (let h = s .some in let d = sym (s .told) ∙ e in omega arith)
+  read t e =
+      let c = came t e in
+      record { part = c .part; same = c .got-it ∙ ap (λ (l : List ℕ). got (c .part) l) (sym (c .place .behind)); on = c .on; inside = c .place .inside; value = c .value }
 
   pub faulty : Tells text from Is g code at → (code ≡ 0 → ⊥) → Faulty text g code at
   faulty t n = go g (t .tells)

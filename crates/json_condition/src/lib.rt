@@ -1,6 +1,6 @@
 // Actions, and conditions on arguments, read from a text. Each function reads one part from a place on, and hands on the first fault.
 ghost use mathlib.Core.Path.{_≡_};
-ghost use mathlib.Core.Bool.{true, false, cond, _&&_, _||_};
+ghost use mathlib.Core.Bool.{true, false, cond, _&&_};
 ghost use mathlib.Core.List.{List, [], _∷_};
 ghost use Prim.Native.Nat.{ℕ, _+_, _-_, _%_, _^_, _≤_, _<_};
 ghost use lib.Dec.{eqb, leb};
@@ -21,6 +21,8 @@ ghost use Rattle.json_condition.specs.Gathering.{Parts, Holds, Kept, Lef
 use json_parts::Step;
 use json_parts::Word;
 use json_parts::is_word;
+use json_scan::both;
+use json_scan::either;
 
 // A condition, or the fault and its place.
 #[repr(C)]
@@ -52,24 +54,6 @@ pub struct Gathered {
 }
 
 // ---- choices
-
-fn both(a: bool, b: bool) -> bool
-    ensures { λ r. ⌜ r ≡ (a && b) ⌝ }
-{
-    if a {
-        return b;
-    }
-    false
-}
-
-fn either(a: bool, b: bool) -> bool
-    ensures { λ r. ⌜ r ≡ (a || b) ⌝ }
-{
-    if a {
-        return true;
-    }
-    b
-}
 
 fn choose(first: bool, a: u64, b: u64) -> u64
     ensures { λ r. ⌜ r ≡ cond first a b ⌝ }
