@@ -176,7 +176,7 @@ fn write_names(out: &mut [u8], at: usize, index: u8, width: u8, operator: u8)
     out[at + 7] = 0;
 }
 
-fn write_condition(
+pub fn write_condition(
     out: &mut [u8],
     at: usize,
     index: u8,
