@@ -1,7 +1,11 @@
 -- `condition_ends` meets its contract: the fault, or what the fields make.
-use mathlib.Core.Path.{refl, sym, _∙_}
+use mathlib.Core.Path.{refl, ap, sym, _∙_}
+use mathlib.Core.List.{List}
+use Prim.Native.Nat.{ℕ}
 use native.Mathlib.Omega.{arith}
 use borrow.Author.Tests.{not-true, not-false}
+use Rattle.definitions.specs.JsonReader.{stop}
+use Rattle.definitions.specs.FormReader.{notOfForm}
 use Rattle.json_condition.proofs.Reading as reading
 use Rattle.json_condition.proofs.Fields as fields
 use Rattle.json_condition.proofs.Gathering as gathering
@@ -28,7 +32,7 @@ returns-2 : tie.Need-returns-2
 returns-2 c = λ slots text inside over left.
     let e = gathering.is-over left over (c .before .before .before .if1 .left) in
     reading.told (record {
-      same = fields.object-missing slots _ _ _ (e .same) (fields.kept-missing _ _ (e .kept) (sym (c .before .before .complete .ensures) ∙ not-true _ (c .before .if2 .taken))) ∙ rw (e .brace);
+      same = fields.object-missing slots _ _ _ (e .same) (fields.kept-missing _ _ (e .kept) (sym (c .before .before .complete .ensures) ∙ not-true _ (c .before .if2 .taken))) ∙ ap (λ (l : List ℕ). stop notOfForm l) (sym (e .brace));
       fault = omega arith;
       inside = omega (arith, e .inside);
     }) (c .refused2 .ensures)
