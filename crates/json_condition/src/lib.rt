@@ -25,7 +25,6 @@ use json_scan::both;
 use json_scan::either;
 
 // A condition, or the fault and its place.
-#[repr(C)]
 pub struct ConditionRead {
     pub code: u32,
     pub at: usize,
