@@ -1,8 +1,9 @@
 -- What a caller has of a function that tells what a reader of a part gives.
 use mathlib.Core.Path.{_≡_, refl, sym, _∙_}
 use mathlib.Core.List.{List}
-use Prim.Native.Nat.{ℕ, _<_}
+use Prim.Native.Nat.{ℕ, _≤_, _<_}
 use native.Mathlib.Omega.{arith}
+use lib.ListN.{length}
 use Rattle.definitions.specs.JsonReader.{Got, got, stop, follow}
 use Rattle.json_scan.specs.Scan.{At, Either, Tells}
 
@@ -38,4 +39,20 @@ made-into {text = text} {from} {code} {at} {Is} {Is'} {g} add t h = record { tel
   where
     go : (g' : Got _) → Either text from Is g' code at → Either text from Is' (follow g' (λ a rest. got (add a) rest)) code at
     go (got a rest) s = record { fine = s .fine; on = s .on; place = s .place; value = h a (s .value) }
+    go (stop k rest) s = s
+
+-- the place that is told lies in the text
+pub told-inside : {A : Type 0} {text : List ℕ} {from code at : ℕ} {Is : A → Type 0} {g : Got A} → Tells text from Is g code at → at ≤ length text
+told-inside {text = text} {from} {code} {at} {Is} {g} t = go g (t .tells)
+  where
+    go : (h : Got _) → Either text from Is h code at → at ≤ length text
+    go (got a rest) s = s .place .inside
+    go (stop k rest) s = s .place .inside
+
+-- what is told from a place on is told from one in front of it
+pub told-earlier : {A : Type 0} {text : List ℕ} {from from' code at : ℕ} {Is : A → Type 0} {g : Got A} → from' ≤ from → Tells text from Is g code at → Tells text from' Is g code at
+told-earlier {text = text} {from} {from'} {code} {at} {Is} {g} h t = record { tells = go g (t .tells) }
+  where
+    go : (g' : Got _) → Either text from Is g' code at → Either text from' Is g' code at
+    go (got a rest) s = record { fine = s .fine; on = omega (arith, s .on); place = s .place; value = s .value }
     go (stop k rest) s = s

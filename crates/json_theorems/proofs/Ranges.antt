@@ -211,7 +211,7 @@ filters-range (object ms) fs e = filters-from ms [] fs e tt
 
 -- ---- their entries, with numbers of the table
 
-number-range : (table : List Slot) → slotsTaken table ≡ true → (k : List ℕ) (n : ℕ) → numberFor table k ≡ some n → n < 2 ^ 32
+pub number-range : (table : List Slot) → slotsTaken table ≡ true → (k : List ℕ) (n : ℕ) → numberFor table k ≡ some n → n < 2 ^ 32
 unfolding numberFor slotsTaken
 number-range [] t k n e = absurd (none-not-some e)
 number-range (s ∷ ss) t k n e =
