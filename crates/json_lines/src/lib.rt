@@ -92,17 +92,19 @@ fn begin_there(text: &[u8], at: usize, opening: u8, closing: u8) -> More
     }
 }
 
-// A call's number, by its name in the table.
+// A call's number, by its name in the table. A name is gone through once; only where there is none is its fault looked for.
 fn call_there(text: &[u8], at: usize, table: &[u8]) -> Step
     requires { ⌜ (at ≤ length (now text)) × (length (now text) ≤ 1048576) × Good (now table) ⌝ }
     ensures { λ r. ⌜ Tells (now (text .entry)) at (λ s. numberFor (slotsIn (slotCount (now (table .entry))) (now (table .entry))) s ≡ some (r .value)) (callThere (slotsIn (slotCount (now (table .entry))) (now (table .entry))) (drop at (now (text .entry)))) (r .code) (r .at) ⌝ }
 {
-    let string = json_parts::string_there(text, at);
-    if string.code != 0 {
-        return string;
+    if !begins(text, at, 0x22) {
+        return json_parts::string_there(text, at);
     }
     let mut name = [0u8; 32];
     let read = json_strings::decode(text, at + 1, &mut name, 0);
+    if !read.ok {
+        return json_parts::string_there(text, at);
+    }
     let called = call_names::number_of(table, &name, read.count);
     if !called.ok {
         return Step {
@@ -113,7 +115,7 @@ fn call_there(text: &[u8], at: usize, table: &[u8]) -> Step
     }
     Step {
         code: 0,
-        at: string.at,
+        at: read.at,
         value: called.number as u64,
     }
 }
