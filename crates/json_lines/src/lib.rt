@@ -18,7 +18,6 @@ use json_parts::More;
 use json_parts::Step;
 
 // How many lines were read, and the place behind their entries; or the fault and its place in the text.
-#[repr(C)]
 pub struct LinesRead {
     pub code: u32,
     pub at: usize,
