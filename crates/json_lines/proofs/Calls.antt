@@ -14,7 +14,7 @@ use Rattle.definitions.specs.JsonReader.{Got, got, stop, follow, first, stringA
 use Rattle.definitions.specs.FormReader.{wrong, stringThere, judged, answered, asked, isSome, unknownCall}
 use Rattle.definitions.specs.CallNames.{Slot, numberFor, slotCount, slotsIn}
 use Rattle.call_names.specs.declared.Called.{Called}
-use Rattle.call_names.specs.Slots.{Kept, Called', Answers, slotCount, slotsIn}
+use Rattle.call_names.specs.Slots.{Kept, Called', Answers}
 use Rattle.json_theorems.proofs.Tests.{false-not-true}
 use Rattle.json_theorems.proofs.Sizes.{string-size}
 use Rattle.json_scan.specs.Scan.{At, Tells}
