@@ -17,6 +17,7 @@ use Rattle.json_theorems.proofs.Strings.{string-sound}
 use Rattle.json_theorems.proofs.Parts.{blanks-sound}
 use Rattle.json_numbers.proofs.Counting.{first-at}
 use Rattle.json_scan.specs.Scan.{At, Either, Tells}
+use Rattle.json_scan.proofs.Telling.{told-earlier}
 use Rattle.json_theorems.specs.Turns.{keyString}
 
 -- ---- what is told
@@ -28,14 +29,6 @@ tells-got {text = text} {from} {code} {at} {Is} {g} {a} {rest} e c f p v = recor
 pub tells-stop : {A : Type 0} {text : List ℕ} {from code at k : ℕ} {Is : A → Type 0} {g : Got A} {rest : List ℕ}
     → g ≡ stop k rest → code ≡ k → 0 < code → At text rest at → Tells text from Is g code at
 tells-stop {text = text} {from} {code} {at} {k} {Is} {g} {rest} e c f p = record { tells = rw e (record { told = c; some = (omega arith); place = p }) }
-
--- a part that begins later
-earlier : {A : Type 0} {text : List ℕ} {from from' code at : ℕ} {Is : A → Type 0} {g : Got A} → from ≤ from' → Tells text from' Is g code at → Tells text from Is g code at
-earlier {text = text} {from} {from'} {code} {at} {Is} {g} h t = record { tells = go g (t .tells) }
-  where
-    go : (g' : Got _) → Either text from' Is g' code at → Either text from Is g' code at
-    go (got a rest) s = let o = s .on in record { fine = s .fine; on = omega arith; place = s .place; value = s .value }
-    go (stop k rest) s = s
 
 -- what was read is put into something else
 pub put-in : {A B : Type 0} {text : List ℕ} {from code at : ℕ} {Is : A → Type 0} {Is' : B → Type 0} (add : A → B) {g : Got A}
@@ -52,7 +45,7 @@ pub here : (text : List ℕ) (at : ℕ) → at ≤ length text → At text (drop
 here text at h = record { inside = h; behind = refl }
 
 -- how far a place is from the end
-at-length : {text rest : List ℕ} {at : ℕ} → At text rest at → at + length rest ≡ length text
+pub at-length : {text rest : List ℕ} {at : ℕ} → At text rest at → at + length rest ≡ length text
 at-length {text = text} {rest} {at} p = let i = p .inside in rw (← p .behind) (omega (arith, length-drop at text))
 
 -- n bytes on, or the end where there are fewer
@@ -170,10 +163,10 @@ module _ (text : List ℕ) (at : ℕ) where
 
   module _ {Is : List ℕ → Type 0} {code place : ℕ} where
     pub string-there : getD text at 0 ≡ quote → Tells text (at + 1) Is (placed badCharacter (stringAt (drop (at + 1) text))) code place → Tells text at Is (stringThere (drop at text)) code place
-    string-there e t = earlier {from' = at + 1} (omega arith) (rw (string-is e) t)
+    string-there e t = told-earlier {from = at + 1} (omega arith) (rw (string-is e) t)
 
     pub key-there : getD text at 0 ≡ quote → Tells text (at + 1) Is (placed badCharacter (stringAt (drop (at + 1) text))) code place → Tells text at Is (keyString (drop at text)) code place
-    key-there e t = earlier {from' = at + 1} (omega arith) (rw (key-is e) t)
+    key-there e t = told-earlier {from = at + 1} (omega arith) (rw (key-is e) t)
 
     pub no-string : (getD text at 0 ≡ quote → ⊥) → at ≤ length text → code ≡ wrong (drop at text) → 0 < code → place ≡ at → Tells text at Is (stringThere (drop at text)) code place
     no-string e h c pos p = tells-stop (string-missing e) c pos (rw p (here text at h))
