@@ -1,0 +1,4 @@
+pub mod Placing
+pub mod Gathering
+pub mod Turning
+pub mod Filtering
