@@ -1,0 +1,10 @@
+pub mod Turns
+pub mod Telling
+pub mod Parts
+pub mod Named
+pub mod Names
+pub mod Filters
+pub mod Reading
+pub mod Copied
+pub mod Whole
+pub mod Answers
