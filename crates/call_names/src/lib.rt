@@ -5,7 +5,7 @@ ghost use Rattle.definitions.specs.CallNames.{number_for, before, is_zero, name_
 ghost use Rattle.call_names.specs.Slots.{Good, compared, Kept, Answers, Prior, prior_name};
 
 // The number of a name, where the table has it.
-#[derive(Drop)]
+#[derive(Clone, Copy)]
 pub struct Called {
     pub ok: bool,
     pub number: u32,

@@ -40,7 +40,7 @@ const EFFECTS: [u8; 176] = *b"\
     ................";
 
 // What an instruction does to the scratch words, and where it may go.
-#[derive(Drop)]
+#[derive(Clone, Copy)]
 pub enum Effect {
     Plain,
     Reads(u32),

@@ -8,14 +8,14 @@ ghost use Rattle.collect.specs.Raw.{Raw, Collects, keys_at, past_entry, Listed, 
 use bpf::{u32_at, write_u32};
 
 // The last entry that was written, which further rules may follow, and how many entries there are.
-#[derive(Drop)]
+#[derive(Clone, Copy)]
 pub struct Last {
     pub entry: usize,
     pub end: usize,
     pub count: usize,
 }
 
-#[derive(Drop)]
+#[derive(Clone, Copy)]
 pub struct Collection {
     pub end: usize,
     pub count: usize,

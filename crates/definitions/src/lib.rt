@@ -2,7 +2,7 @@
 // what these values mean is said in specs/.
 
 // An instruction of classic BPF: struct sock_filter of linux/filter.h.
-#[derive(Drop)]
+#[derive(Clone, Copy)]
 pub struct Instruction {
     pub code: u16,
     pub jt: u8,
@@ -11,7 +11,7 @@ pub struct Instruction {
 }
 
 // How an argument of a call is compared with a value.
-#[derive(Drop)]
+#[derive(Clone, Copy)]
 pub enum Operator {
     Eq,
     Ge,
@@ -23,14 +23,14 @@ pub enum Operator {
 }
 
 // How much of an argument is compared: its low 32 bits, or all 64.
-#[derive(Drop)]
+#[derive(Clone, Copy)]
 pub enum Width {
     Dword,
     Qword,
 }
 
 // One comparison of an argument. The mask is 0 unless the operator is masked eq.
-#[derive(Drop)]
+#[derive(Clone, Copy)]
 pub struct Condition {
     pub index: u8,
     pub width: Width,
@@ -41,7 +41,7 @@ pub struct Condition {
 
 // What is wrong, and where: the number of the answer, 0 for nothing; the entry, the rule of the entry and the condition of the rule,
 // counted from 0, ffffffff where a number does not apply.
-#[derive(Drop)]
+#[derive(Clone, Copy)]
 pub struct Fault {
     pub code: u32,
     pub entry: u32,
@@ -51,7 +51,7 @@ pub struct Fault {
 
 // What compiling answers: a number that says what became of it, how many instructions the filter has, and where the fault is.
 #[repr(C)]
-#[derive(Drop)]
+#[derive(Clone, Copy)]
 pub struct Answer {
     pub code: u32,
     pub count: u32,
@@ -63,7 +63,7 @@ pub struct Answer {
 // What asking a filter about a call answers: 0 with the action and the number of instructions executed, 1 for a filter that the kernel
 // would not take, 9 for a call that is not 64 bytes.
 #[repr(C)]
-#[derive(Drop)]
+#[derive(Clone, Copy)]
 pub struct Outcome {
     pub code: u32,
     pub action: u32,
@@ -73,7 +73,7 @@ pub struct Outcome {
 // What asking a rule set about a call answers: 0 with the action, the answer 1 to 5 or 8 that compiling gives, with the place of its
 // fault, or 9 for a call that is not 64 bytes.
 #[repr(C)]
-#[derive(Drop)]
+#[derive(Clone, Copy)]
 pub struct Decision {
     pub code: u32,
     pub action: u32,
@@ -85,7 +85,7 @@ pub struct Decision {
 // What stands between two calls that write a set: what became of the last one (0: it was taken), how many bytes are written, and the
 // places of the open entry and of the open rule (0: there is none).
 #[repr(C)]
-#[derive(Drop)]
+#[derive(Clone, Copy)]
 pub struct Writer {
     pub code: u32,
     pub end: u32,
@@ -96,7 +96,7 @@ pub struct Writer {
 // What stands between two calls that read a set: what became of the last one (0: it gave a part), the place of the next part, and how
 // many entries, rules of the open entry and conditions of the open rule are left.
 #[repr(C)]
-#[derive(Drop)]
+#[derive(Clone, Copy)]
 pub struct Cursor {
     pub code: u32,
     pub at: u32,
@@ -107,7 +107,7 @@ pub struct Cursor {
 
 // What reading the head of a set gives.
 #[repr(C)]
-#[derive(Drop)]
+#[derive(Clone, Copy)]
 pub struct Head {
     pub next: Cursor,
     pub architecture: u32,
@@ -117,7 +117,7 @@ pub struct Head {
 
 // What reading an entry gives: the number that is listed.
 #[repr(C)]
-#[derive(Drop)]
+#[derive(Clone, Copy)]
 pub struct Listed {
     pub next: Cursor,
     pub number: u32,
@@ -125,7 +125,7 @@ pub struct Listed {
 
 // What reading a condition gives: its numbers, as the format has them.
 #[repr(C)]
-#[derive(Drop)]
+#[derive(Clone, Copy)]
 pub struct Compared {
     pub next: Cursor,
     pub index: u8,
@@ -138,7 +138,7 @@ pub struct Compared {
 // What reading a JSON text answers: a number that says what became of it, and where in the text the fault is (with 14 in the table). With 0
 // how many sets were written, and bytes; with 7 which buffer is too short (1: scratch, 2: the one for the sets), and what it needs.
 #[repr(C)]
-#[derive(Drop)]
+#[derive(Clone, Copy)]
 pub struct JsonAnswer {
     pub code: u32,
     pub at: u32,
@@ -149,7 +149,7 @@ pub struct JsonAnswer {
 // What walking through named sets gives: 0 with a named set's places and lengths and the place behind it, 1 for bytes that are not of the
 // form, 2 for no set. All places are offsets, and all numbers but the code are 0 where there is no set.
 #[repr(C)]
-#[derive(Drop)]
+#[derive(Clone, Copy)]
 pub struct NamedPlace {
     pub code: u32,
     pub name: u32,

@@ -18,7 +18,7 @@ use json_parts::{Step, Word, is_word};
 use json_scan::{both, either};
 
 // A condition, or the fault and its place.
-#[derive(Drop)]
+#[derive(Clone, Copy)]
 pub struct ConditionRead {
     pub code: u32,
     pub at: usize,
@@ -30,7 +30,7 @@ pub struct ConditionRead {
 }
 
 // What a condition's object has given up to a place, and whether more is to come; or the fault and its place.
-#[derive(Drop)]
+#[derive(Clone, Copy)]
 pub struct Gathered {
     pub code: u32,
     pub at: usize,

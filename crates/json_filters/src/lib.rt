@@ -18,7 +18,7 @@ use json_parts::{colon_there, field_there, more_there, open_there};
 use json_scan::skip_blanks;
 
 // What is gathered of a filter: which of its fields were given, its actions, and how many lines it has.
-#[derive(Drop)]
+#[derive(Clone, Copy)]
 pub struct Parts {
     pub mismatch_given: bool,
     pub match_given: bool,
@@ -29,7 +29,7 @@ pub struct Parts {
 }
 
 // What a turn gathered: a field more, and whether there is another; or the fault and its place.
-#[derive(Drop)]
+#[derive(Clone, Copy)]
 pub struct Turn {
     pub code: u32,
     pub at: usize,
@@ -38,7 +38,7 @@ pub struct Turn {
 }
 
 // A filter's set is written up to a place; or the fault and its place in the text.
-#[derive(Drop)]
+#[derive(Clone, Copy)]
 pub struct FilterRead {
     pub code: u32,
     pub at: usize,

@@ -13,7 +13,7 @@ ghost use Rattle.json_lines.specs.Lines.{begin_there, call_there, args_there, fr
 use json_parts::{More, Step};
 
 // How many lines were read, and the place behind their entries; or the fault and its place in the text.
-#[derive(Drop)]
+#[derive(Clone, Copy)]
 pub struct LinesRead {
     pub code: u32,
     pub at: usize,
@@ -22,7 +22,7 @@ pub struct LinesRead {
 }
 
 // Conditions on arguments that were read: whether there are args, and how many conditions; or the fault and its place.
-#[derive(Drop)]
+#[derive(Clone, Copy)]
 struct ArgsRead {
     code: u32,
     at: usize,
@@ -31,7 +31,7 @@ struct ArgsRead {
 }
 
 // What is known of a line: the keys that were given, its call's number, whether it has a rule and how many conditions; or the fault and its place.
-#[derive(Drop)]
+#[derive(Clone, Copy)]
 struct LineRead {
     code: u32,
     at: usize,
@@ -44,7 +44,7 @@ struct LineRead {
 }
 
 // A line that was read, and the place behind its entry; or the fault and its place in the text.
-#[derive(Drop)]
+#[derive(Clone, Copy)]
 struct EntryRead {
     code: u32,
     at: usize,

@@ -8,14 +8,14 @@ ghost use Rattle.json_numbers.specs.Counts.{Went, Ended, Is};
 use json_scan::Place;
 
 // A part of a number: how many bytes it has; if it is not of the form, how many of them are right.
-#[derive(Drop)]
+#[derive(Clone, Copy)]
 pub struct Part {
     pub ok: bool,
     pub n: usize,
 }
 
 // A number that was asked for.
-#[derive(Drop)]
+#[derive(Clone, Copy)]
 pub struct Natural {
     pub ok: bool,
     pub value: u64,

@@ -12,7 +12,7 @@ ghost use Rattle.json_theorems.specs.Turns.{key_string};
 ghost use Rattle.json_parts.specs.Agreeing.{agree};
 
 // What was read from a place on: 0, the place behind it and the number that it stands for; or the number of the fault, and its place.
-#[derive(Drop)]
+#[derive(Clone, Copy)]
 pub struct Step {
     pub code: u32,
     pub at: usize,
@@ -20,7 +20,7 @@ pub struct Step {
 }
 
 // What stands behind a value: more, or the end.
-#[derive(Drop)]
+#[derive(Clone, Copy)]
 pub struct More {
     pub code: u32,
     pub at: usize,
@@ -28,7 +28,7 @@ pub struct More {
 }
 
 // A string of which the first 16 bytes are kept as two numbers, lowest byte first, and all are counted.
-#[derive(Drop)]
+#[derive(Clone, Copy)]
 pub struct Word {
     pub code: u32,
     pub at: usize,

@@ -5,7 +5,7 @@ ghost use Rattle.definitions.specs.JsonReader.{blanks, byte_count, plain_piece, 
 ghost use Rattle.json_scan.specs.Scan.{or_else, unit_at, used_of, Stands, At, is_short};
 
 // Where a scanner stands: behind what it read, or at what it could not read.
-#[derive(Drop)]
+#[derive(Clone, Copy)]
 pub struct Place {
     pub ok: bool,
     pub at: usize,

@@ -7,7 +7,7 @@ ghost use Rattle.json_scan.specs.Scan.{or_else, used_of};
 ghost use Rattle.json_strings.specs.Decoding.{meant_of, Stored};
 
 // A string that was read: the place behind it (or of the byte that is wrong), and how many bytes it has.
-#[derive(Drop)]
+#[derive(Clone, Copy)]
 pub struct Decoded {
     pub ok: bool,
     pub at: usize,

@@ -15,7 +15,7 @@ use definitions::JsonAnswer;
 use json_filters::FilterRead;
 
 // A name that was read: the place behind it, and how many bytes it has; or the fault and its place.
-#[derive(Drop)]
+#[derive(Clone, Copy)]
 struct Name {
     code: u32,
     at: usize,
@@ -23,7 +23,7 @@ struct Name {
 }
 
 // A filter with its name that was read: the place behind it in the text and in scratch, and whether there is another.
-#[derive(Drop)]
+#[derive(Clone, Copy)]
 struct Turn {
     code: u32,
     at: usize,
@@ -32,7 +32,7 @@ struct Turn {
 }
 
 // What was read: how many sets stand in scratch, and up to where; or the fault and its place.
-#[derive(Drop)]
+#[derive(Clone, Copy)]
 struct TextRead {
     code: u32,
     at: usize,

@@ -32,7 +32,7 @@ const PLAIN_LENGTH: usize = 5;
 
 // What a walk over a part found, with what was found before it: whether it is of the format, the place behind it, how many instructions
 // there are, and the least fault.
-#[derive(Drop)]
+#[derive(Clone, Copy)]
 pub struct Scan {
     pub ok: bool,
     pub past: usize,
@@ -149,7 +149,7 @@ fn number_at(s: &[u8], at: usize) -> u64
 
 // What a turn of the walk over entries found: as a scan, and how many entries are left, the least number that may come next, and how
 // many entries are short enough.
-#[derive(Drop)]
+#[derive(Clone, Copy)]
 pub struct Turn {
     pub ok: bool,
     pub left: u32,
@@ -357,7 +357,7 @@ fn scan_entries(s: &[u8], n: u32, before: usize, found: Fault) -> Turn
 
 // What is said of a set whatever it is for: its least fault, 1 where it is not of the format; how many instructions its filter has; and
 // the first entry with which that is too long.
-#[derive(Drop)]
+#[derive(Clone, Copy)]
 pub struct Judged {
     pub fault: Fault,
     pub count: usize,

@@ -92,7 +92,7 @@ fn put_plain(out: &mut [u8], s: &[u8], n: u32, from: usize, at: usize, m: u32, d
 }
 
 // How many entries are left, and the places behind the others, where they were written and where they were read.
-#[derive(Drop)]
+#[derive(Clone, Copy)]
 pub struct Progress {
     pub left: u32,
     pub end: usize,

@@ -32,7 +32,7 @@ const KINDS: [u8; 176] = *b"\
     ....+.......+...";
 
 // The machine: accumulator, index register, sixteen scratch words.
-#[derive(Drop)]
+#[derive(Clone, Copy)]
 pub struct State {
     pub a: u32,
     pub x: u32,
@@ -40,14 +40,14 @@ pub struct State {
 }
 
 // Where a step leads: some instructions on, out with an action, or nowhere.
-#[derive(Drop)]
+#[derive(Clone, Copy)]
 pub enum Way {
     Next(u32),
     Returns(u32),
     Stuck,
 }
 
-#[derive(Drop)]
+#[derive(Clone, Copy)]
 pub struct Step {
     pub way: Way,
     pub state: State,

@@ -14,7 +14,7 @@ const LARGEST_FILTER: usize = 32768;
 const LARGEST_ROOM: usize = 40000;
 
 // What came next on the input: a vector that passed or failed, or another record.
-#[derive(Drop)]
+#[derive(Clone, Copy)]
 enum Record {
     Passed,
     Failed,

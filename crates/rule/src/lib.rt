@@ -48,7 +48,7 @@ fn put_helpers(out: &mut [u8], end: usize, d: u8) -> usize
 }
 
 // How many instructions a condition puts in front, and the distance then.
-#[derive(Drop)]
+#[derive(Clone, Copy)]
 pub struct Step {
     pub count: usize,
     pub distance: u8,
@@ -73,7 +73,7 @@ pub fn step_length(q: Condition, d: u8) -> Step
 }
 
 // Where a condition was put, and the distance in front of it.
-#[derive(Drop)]
+#[derive(Clone, Copy)]
 pub struct Put {
     pub at: usize,
     pub distance: u8,
@@ -155,7 +155,7 @@ fn put_rule(out: &mut [u8], s: &[u8], n: u32, from: usize, at: usize, m: u32, ju
 }
 
 // How many instructions the bodies of rules have, and the place behind the rules in the rule set. Jumps are two more for each.
-#[derive(Drop)]
+#[derive(Clone, Copy)]
 pub struct Length {
     pub count: usize,
     pub past: usize,
@@ -182,7 +182,7 @@ pub fn rules_length(s: &[u8], n: u32, from: usize) -> Length
 }
 
 // The place behind what was written, and the place behind what it was written from.
-#[derive(Drop)]
+#[derive(Clone, Copy)]
 pub struct Written {
     pub end: usize,
     pub past: usize,

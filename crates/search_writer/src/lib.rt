@@ -30,7 +30,7 @@ const BLOCK_SPANS: usize = 5;
 
 // How many instructions there are, and, counted from the filter's end, the places of the nearest returns (0: there is none) and the
 // place where they are entered.
-#[derive(Drop)]
+#[derive(Clone, Copy)]
 pub struct Marks {
     pub count: usize,
     pub hit: usize,
@@ -39,7 +39,7 @@ pub struct Marks {
 }
 
 // How many instructions there are once a place can be jumped to, and where that is.
-#[derive(Drop)]
+#[derive(Clone, Copy)]
 pub struct Reached {
     pub count: usize,
     pub at: usize,
@@ -113,7 +113,7 @@ fn near_return(
 }
 
 // Where the filter ends in the buffer, and its actions: m of a match, d of a mismatch.
-#[derive(Drop)]
+#[derive(Clone, Copy)]
 pub struct Plan {
     pub end: usize,
     pub m: u32,

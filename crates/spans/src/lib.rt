@@ -10,7 +10,7 @@ ghost use Rattle.spans.specs.Spans.{spans_from, Stands, Passes, Gathers, IsNext}
 const CHAIN_SPANS: usize = 3;
 
 // Where entries are read: the place, how many are left, and where the code of their rules begins, counted from the filter's end.
-#[derive(Drop)]
+#[derive(Clone, Copy)]
 pub struct Standing {
     pub at: usize,
     pub left: u32,
@@ -18,7 +18,7 @@ pub struct Standing {
 }
 
 // A span as it is read: its numbers, the place of its rules (0: it has none), and the cursor behind it.
-#[derive(Drop)]
+#[derive(Clone, Copy)]
 pub struct Run {
     pub first: u32,
     pub last: u32,
