@@ -155,7 +155,7 @@ class Function:
                 return ".".join([var, *stripped])
             place = self.step(at, head) or self.anywhere(head)
             if place is None:
-                if head not in ("ranges", "type_inv", "utf8"):
+                if head not in ("ranges", "type_inv", "utf8", "well_formed"):
                     self.report.append(f"no step `{head}` in {m[0]}")
                 return ".".join([var, *stripped])
             return ".".join([var, place[2][1], *self.field(place, stripped[1:])])
@@ -225,7 +225,7 @@ def turn(crate, folder, tables):
                         term = term[:t] + ("\n    " if t else "") + " record { " + "; ".join(f"{a} = {p.strip()}" for a, p in zip(asked, parts)) + " }"
                     else:
                         f.report.append(f"{new}: {len(parts)} parts for {asked}")
-            sep = "\n" if term.startswith("\n") else " "
+            sep = "" if term.startswith("\n") else " "
             lines = [l for l in block[:k]] + [f"pub {new} : goal.{new}"] + [l for l in rest[:j]] + [f"{new} {' '.join(args)} ={sep}{term}".rstrip()]
             answers.append("\n".join(lines))
             continue
@@ -252,7 +252,7 @@ def turn(crate, folder, tables):
             table_of = dict(zip(params, names))
             term = re.sub(r"(?<![\w.'₀-₉-])([^\W\d][\w'₀-₉-]*)(?![\w'₀-₉-])", lambda q: table_of.get(q[1], q[1]), term)
             new = f"{kind}-{entry[0][1]}"
-            sep = "\n" if term.startswith("\n") else " "
+            sep = "" if term.startswith("\n") else " "
             invariants.append("\n".join([*block[:k], f"abbrev pub {new} : goal.{new}", *block[k + 1 : j], f"{new} l ={sep}{term}"]))
             continue
         local.append(body)

@@ -1,5 +1,7 @@
 // Numbers read from bytes and written as bytes, lowest byte first, and instructions made and written as eight bytes.
 // Room and place are the caller's to show, so that nothing here is tested twice.
+#![tactic(auto)]
+
 ghost use Rattle.std.specs.Prelude.{◌≡◌, ◌+◌, ◌≤◌, ◌<◌, length};
 ghost use Rattle.definitions.specs.Word.{bytes_of, number_at};
 ghost use Rattle.definitions.specs.Machine.{instruction_bytes};

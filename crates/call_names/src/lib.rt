@@ -1,4 +1,6 @@
 // The lent table of call names: checked, and searched.
+#![tactic(auto)]
+
 ghost use Rattle.std.specs.Prelude.{◌≡◌, ◌&&◌, ◌||◌, cond, true, [], List, ℕ, ◌+◌, ◌*◌, ◌-◌, ◌≤◌, ◌<◌, leb, length, drop, take, get_or};
 ghost use Rattle.definitions.specs.Json.{all};
 ghost use Rattle.definitions.specs.CallNames.{number_for, before, is_zero, name_in, is_named, first_bad, slot_count, slots_in, until_zero};

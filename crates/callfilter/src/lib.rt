@@ -1,5 +1,7 @@
 // The entry points that a host calls, exported under their C names. None asks anything of its caller: bad input gets its answer, and a
 // refusal writes nothing.
+#![tactic(auto)]
+
 ghost use Rattle.std.specs.Prelude.{◌≡◌, true, false, not, eqb, ltb, ◌+◌, ◌*◌, ◌^◌, ◌≤◌};
 ghost use Rattle.std.proofs.Math.Option.{some};
 ghost use Rattle.definitions.specs.Answer as answers;

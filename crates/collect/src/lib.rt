@@ -1,5 +1,7 @@
 // Lines of a filter, as they stand in the text, made one entry for a number, ascending: their keys are listed and sorted, and then each line
 // is copied behind the one before it. All in one buffer that the caller lends (specs/Raw.antt says which part holds what).
+#![tactic(auto)]
+
 ghost use Rattle.std.specs.Prelude.{◌≡◌, map, ◌+◌, ◌-◌, ◌*◌, ◌%◌, ◌≤◌, ◌<◌, length, take, drop, get_or, set};
 ghost use Rattle.bpf.specs.Place.{place};
 ghost use Rattle.sort.specs.Sorted.{sorted};

@@ -1,5 +1,7 @@
 // One comparison of an argument: read from its bytes, and as instructions, which are written backwards from their end: how far a
 // condition jumps depends on what stands behind it. Each half of the argument takes two or three of them.
+#![tactic(auto)]
+
 ghost use Rattle.std.specs.Prelude.{◌≡◌, true, false, cond, [], ◌∷◌, ℕ, ◌+◌, ◌*◌, ◌≤◌, ◌<◌, length};
 ghost use Rattle.definitions.specs.Word as word;
 ghost use Rattle.definitions.specs.Emitted as emitted;

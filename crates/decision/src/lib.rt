@@ -1,5 +1,7 @@
 // What a rule set means for a call, straight from the bytes of both: no filter is made and none is run. A set is judged first, so that
 // the walk over its entries may trust every count in it.
+#![tactic(auto)]
+
 ghost use Rattle.std.specs.Prelude.{◌≡◌, ◌&&◌, ◌+◌, ◌*◌, length};
 ghost use Rattle.definitions.specs.Machine.{call_of};
 ghost use Rattle.definitions.specs.RuleSet as defined;

@@ -1,5 +1,6 @@
 // The types that definitions, proofs and code share, each declared once. There is no code here:
 // what these values mean is said in specs/.
+#![tactic(auto)]
 
 // An instruction of classic BPF: struct sock_filter of linux/filter.h.
 #[derive(Clone, Copy)]

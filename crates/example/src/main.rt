@@ -1,5 +1,7 @@
 // Builds the worked rule set by the exported writers, compiles it, compares both with stored bytes, and reads the set back. What it
 // says is compared with the file `stdout`, so that the proved functions are also seen to run.
+#![tactic(auto)]
+
 ghost use Rattle.std.specs.Prelude.{◌≡◌, true, length};
 ghost use Rattle.definitions.specs.Machine.{filter_bytes};
 ghost use Rattle.definitions.specs.RuleSet.{RuleSet};

@@ -1,5 +1,7 @@
 // A fault as one value, its number and its place, and the least of what was found so far and what a test finds: for a condition, for the
 // number of conditions of a rule, and for whoever walks over more.
+#![tactic(auto)]
+
 ghost use Rattle.std.specs.Prelude.{◌≡◌, cond, ◌&&◌, ◌||◌, eqb, ltb};
 ghost use Rattle.definitions.specs.Answer as answers;
 ghost use Rattle.definitions.specs.Answer.{fits_width, unless, condition_faults, count_faults, least_of};

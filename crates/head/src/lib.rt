@@ -1,5 +1,7 @@
 // What the first number of a rule set says, architecture and flag, and the head of its filter, which stands in front of the numbers in
 // both forms of output.
+#![tactic(auto)]
+
 ghost use Rattle.std.specs.Prelude.{◌≡◌, [], ◌∷◌, ◌*◌, ◌≤◌, length};
 ghost use Rattle.definitions.specs.Machine.{filter_bytes};
 ghost use Rattle.definitions.specs.RuleSet.{architecture_word, kill_process};

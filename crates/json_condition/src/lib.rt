@@ -1,4 +1,6 @@
 // Actions, and conditions on arguments, read from a text. Each function reads one part from a place on, and hands on the first fault.
+#![tactic(auto)]
+
 ghost use Rattle.std.specs.Prelude.{◌≡◌, true, false, cond, ◌&&◌, List, [], ◌∷◌, ℕ, ◌+◌, ◌-◌, ◌%◌, ◌^◌, ◌≤◌, ◌<◌, eqb, leb, length, drop};
 ghost use Rattle.std.proofs.Math.Option.{some};
 ghost use Rattle.definitions.specs.declared.Operator.TheVariants.{MaskedEq};

@@ -1,5 +1,7 @@
 // Filters and their names, read from a text and written as named sets. Scratch has three parts, each as long as the text: the sets
 // that are written, the entries of one filter's lines, and room to put them in order.
+#![tactic(auto)]
+
 ghost use Rattle.std.specs.Prelude.{◌≡◌, Bool, true, false, cond, ◌&&◌, List, [], ◌∷◌, ℕ, ◌+◌, ◌*◌, ◌≤◌, ◌<◌, eqb, length, take, drop};
 ghost use Rattle.std.proofs.Math.Option.{none};
 ghost use Rattle.definitions.specs.Collected.{collected, now as way};

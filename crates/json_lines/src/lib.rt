@@ -1,5 +1,7 @@
 // The lines of a filter, read from a text and written as entries: one for a line, in the order of the text, with no rules or one. What is written
 // is never longer than what was read, so that a buffer of the text's length has room for it.
+#![tactic(auto)]
+
 ghost use Rattle.std.specs.Prelude.{◌≡◌, true, false, List, ◌∷◌, ℕ, ◌+◌, ◌-◌, ◌*◌, ◌≤◌, ◌<◌, eqb, length, drop};
 ghost use Rattle.std.proofs.Math.Option.{some};
 ghost use Rattle.definitions.specs.JsonReader.{first};

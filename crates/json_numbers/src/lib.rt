@@ -1,4 +1,6 @@
 // Numbers: skipped as RFC 8259 has them, and read where they are digits alone.
+#![tactic(auto)]
+
 ghost use Rattle.std.specs.Prelude.{◌≡◌, ◌&&◌, ◌||◌, cond, [], List, ℕ, suc, ◌+◌, ◌*◌, ◌-◌, ◌≤◌, ◌<◌, eqb, length, drop, take};
 ghost use Rattle.definitions.specs.Json.{is_digit, number};
 ghost use Rattle.definitions.specs.JsonForm.{natural};

@@ -1,4 +1,6 @@
 // The parts that every object of the form is read by: brackets, keys, colons, commas; strings that are skipped or kept as words, and numbers.
+#![tactic(auto)]
+
 ghost use Rattle.std.specs.Prelude.{◌≡◌, ◌&&◌, ◌||◌, cond, ◌≤◌, ◌<◌, eqb, length, drop, get_or};
 ghost use Rattle.definitions.specs.Json.{ascii, quote, is_digit, hex_digit};
 ghost use Rattle.definitions.specs.JsonForm.{condition_keys, line_keys, filter_keys};

@@ -1,4 +1,6 @@
 // The JSON front end, a sketch: blanks and strings skipped as RFC 8259 has them.
+#![tactic(auto)]
+
 ghost use Rattle.std.specs.Prelude.{◌≡◌, ◌&&◌, ◌||◌, cond, [], ◌∷◌, ◌+◌, ◌≤◌, ◌<◌, length, drop, take, get_or};
 ghost use Rattle.definitions.specs.Json as text;
 ghost use Rattle.definitions.specs.JsonReader.{blanks, byte_count, plain_piece, escape_piece, character, string_at};

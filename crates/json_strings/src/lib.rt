@@ -1,4 +1,6 @@
 // Strings decoded: escapes and surrogate pairs become UTF-8. The bytes are stored as far as there is room, and all counted.
+#![tactic(auto)]
+
 ghost use Rattle.std.specs.Prelude.{◌≡◌, cond, [], ◌∷◌, List, ℕ, ◌+◌, ◌*◌, ◌-◌, ◌≤◌, ◌<◌, length, drop, take, get_or, set};
 ghost use Rattle.std.proofs.lemmas.List.Edits.{sets};
 ghost use Rattle.definitions.specs.Json.{utf8, short_escape};

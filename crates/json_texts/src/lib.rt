@@ -1,5 +1,7 @@
 // JSON texts: the object of all filters by their names, the whole text, and its sets in a buffer. The named sets are written into scratch as they
 // are read; each takes no more bytes there than the text that it was read from, so that there always is room.
+#![tactic(auto)]
+
 ghost use Rattle.std.specs.Prelude.{◌≡◌, List, [], ◌++◌, ℕ, ◌+◌, ◌*◌, ◌≤◌, ◌<◌, eqb, length, take, drop};
 ghost use Rattle.definitions.specs.CallNames.{Slot};
 ghost use Rattle.definitions.specs.JsonForm.{Filter};

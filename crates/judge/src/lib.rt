@@ -1,6 +1,8 @@
 // Rule sets as bytes, judged in one walk: whether they are of the format, the least fault in them with its place, how many instructions
 // their filter has, and with how many entries it is short enough. Nothing in the bytes is trusted: whatever a count says, the walk ends
 // where the bytes do.
+#![tactic(auto)]
+
 ghost use Rattle.std.specs.Prelude.{◌≡◌, true, cond, not, ◌+◌, ◌-◌, ◌≤◌, ◌<◌, eqb, ltb, length};
 ghost use Rattle.std.proofs.Math.Option.{none};
 ghost use Rattle.definitions.specs.Word.{number_at};

@@ -1,5 +1,7 @@
 // A whole filter from a rule set's bytes, which the caller has shown to be in the format. A part's length is known only once it is
 // written, so each part answers the places behind it.
+#![tactic(auto)]
+
 ghost use Rattle.std.specs.Prelude.{◌≡◌, [], true, ◌+◌, ◌-◌, ◌*◌, ◌≤◌, ◌<◌, length};
 ghost use Rattle.definitions.specs.Word.{number_at};
 ghost use Rattle.definitions.specs.Machine.{filter_bytes};

@@ -1,5 +1,7 @@
 // The classic BPF machine as code that is proved to do what the definitions say. What a definition answers for a filter can so be put
 // beside what a kernel answers for the same bytes.
+#![tactic(auto)]
+
 ghost use Rattle.std.specs.Prelude.{◌≡◌, true, ◌+◌, ◌-◌, ◌*◌, ◌/◌, ◌%◌, ◌^◌, ◌≤◌, length, get_or};
 ghost use Rattle.std.proofs.Math.Option.{some};
 ghost use Rattle.definitions.specs.Word.{low};

@@ -1,4 +1,6 @@
 // Named sets in bytes: the one at a place, and the first of a name. Nothing in the bytes is trusted, and no place wraps.
+#![tactic(auto)]
+
 ghost use Rattle.std.specs.Prelude.{◌≡◌, ◌+◌, ◌≤◌, length, take, drop};
 ghost use Rattle.definitions.specs.JsonForm.{same};
 ghost use Rattle.definitions.specs.NamedSets.{no_set, next_set, find_set};

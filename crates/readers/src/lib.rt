@@ -1,4 +1,6 @@
 // Rule sets in their byte form, read part by part. What stands between two calls is a few numbers by value; nothing in them is trusted.
+#![tactic(auto)]
+
 ghost use Rattle.std.specs.Prelude.{◌≡◌, ◌+◌, ◌≤◌, eqb, length};
 ghost use Rattle.definitions.specs.Word.{number_at};
 ghost use Rattle.definitions.specs.Writers.{head_good};

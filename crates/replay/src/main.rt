@@ -1,5 +1,7 @@
 // Replays stored vectors: compiles each set into a buffer of its room and compares the answer, the filter and the bytes behind it.
 // It needs nothing but itself and its input, so that vectors can be tried where neither Rust nor Python is at hand.
+#![tactic(auto)]
+
 ghost use Rattle.std.specs.Prelude.{◌≡◌, true, ◌≤◌, length};
 ghost use Rattle.replay.specs.Pattern as patterns;
 

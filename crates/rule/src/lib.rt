@@ -1,5 +1,7 @@
 // Rules as instructions, from a rule set's bytes, which the caller has shown to be in the format. A rule is written backwards
 // from its end: how far a condition jumps depends on what stands behind it.
+#![tactic(auto)]
+
 ghost use Rattle.std.specs.Prelude.{◌≡◌, ℕ, ◌+◌, ◌*◌, ◌≤◌, ◌<◌, ltb, length};
 ghost use Rattle.definitions.specs.Machine.{filter_bytes};
 ghost use Rattle.definitions.specs.Emitted as emitted;

@@ -1,5 +1,7 @@
 // The code of rules as the search form has it, without jumps between them, counted and written from a rule set's bytes, which the caller
 // has shown to be in the format.
+#![tactic(auto)]
+
 ghost use Rattle.std.specs.Prelude.{◌≡◌, ℕ, ◌+◌, ◌*◌, ◌≤◌, length};
 ghost use Rattle.definitions.specs.Machine.{filter_bytes};
 ghost use Rattle.bpf.specs.Place.{place};

@@ -1,6 +1,8 @@
 // The search form of a filter from a rule set's bytes, which the caller has shown to be in the format. The code of the rules stands at
 // the filter's end, and the tree of comparisons is written in front of it from the back. Nothing is written where there is no room, so
 // that counting is writing into no room at all.
+#![tactic(auto)]
+
 ghost use Rattle.std.specs.Prelude.{◌≡◌, List, ◌∷◌, true, false, cond, not, ◌&&◌, ◌||◌, ℕ, ◌+◌, ◌-◌, ◌*◌, ◌≤◌, ◌<◌, ltb, length, take};
 ghost use Rattle.definitions.specs.declared.Instruction.{Instruction};
 ghost use Rattle.definitions.specs.Word.{number_at};

@@ -1,5 +1,7 @@
 // What a rule set's bytes say, read at places that the caller has shown to be inside: names, and parts; and whether what stands there is of
 // the format. Nothing is tested here twice.
+#![tactic(auto)]
+
 ghost use Rattle.std.specs.Prelude.{◌≡◌, ◌+◌, ◌*◌, ◌≤◌, length};
 ghost use Rattle.definitions.specs.RuleSet.{architecture_word, is_action};
 ghost use Rattle.definitions.specs.Format as format;

@@ -1,5 +1,7 @@
 // The runs of listed numbers that a search compares with, read one by one from a rule set's bytes, which the caller has shown to be in
 // the format.
+#![tactic(auto)]
+
 ghost use Rattle.std.specs.Prelude.{◌≡◌, ◌&&◌, ◌+◌, ◌≤◌, eqb, length, take, drop};
 ghost use Rattle.definitions.specs.Word.{number_at};
 ghost use Rattle.definitions.specs.SearchForm.{singles, few};

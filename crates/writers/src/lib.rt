@@ -1,5 +1,7 @@
 // Rule sets in their byte form, written part by part into bytes that the caller lends. What stands between two calls is a few numbers by
 // value; nothing in them is trusted, and a call that is refused writes nothing. What a part may be is tested by the readers' own tests.
+#![tactic(auto)]
+
 ghost use Rattle.std.specs.Prelude.{◌≡◌, true, not, ◌++◌, ◌+◌, ◌≤◌, eqb, length};
 ghost use Rattle.std.proofs.Math.Option.{some};
 ghost use Rattle.definitions.specs.Word.{bytes_of, number_at};

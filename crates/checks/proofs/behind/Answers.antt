@@ -1,0 +1,26 @@
+-- `behind` meets its contract, effect by effect.
+use borrow.Author.Tests.{ltb-true}
+use mathlib.Core.Path.{refl}
+use Rattle.checks.proofs.Scratch.{words_every}
+use Rattle.checks.proofs.behind.Goals as goal
+
+pub with_word-requires : goal.with_word-requires
+with_word-requires c = ltb-true _ 16 (rw c.e-1.given.1 at c.requires)
+
+pub returns-in-Plain : goal.returns-in-Plain
+returns-in-Plain c = rw c.enum_told-1.given.1 (λ k l. refl)
+
+pub returns-in-Reads : goal.returns-in-Reads
+returns-in-Reads c = rw c.enum_told-in-Reads-1.given.1 (λ k l. refl)
+
+pub returns-in-Writes : goal.returns-in-Writes
+returns-in-Writes c = rw c.e-1.given.1 c.with_word.ensures
+
+pub returns-in-Jumps : goal.returns-in-Jumps
+returns-in-Jumps c = rw c.enum_told-in-Jumps-1.given.1 words_every
+
+pub returns-in-Branches : goal.returns-in-Branches
+returns-in-Branches c = rw c.enum_told-in-Branches-1.given.1 words_every
+
+pub returns-in-Leaves : goal.returns-in-Leaves
+returns-in-Leaves c = rw c.enum_told-in-Leaves-1.given.1 (λ k l. refl)

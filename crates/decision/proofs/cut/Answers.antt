@@ -1,0 +1,5 @@
+-- `cut` meets its contract, width by width.
+use Rattle.decision.proofs.cut.Goals as goal
+
+pub returns-in-Dword : goal.returns-in-Dword
+returns-in-Dword c = rw c.enum_told-1.given.1

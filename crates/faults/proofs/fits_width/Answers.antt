@@ -1,0 +1,5 @@
+-- `fits_width` meets its contract: one width after the other.
+use Rattle.faults.proofs.fits_width.Goals as goal
+
+pub returns-in-Dword : goal.returns-in-Dword
+returns-in-Dword c = rw c.enum_told-1.given.1 c.both.ensures

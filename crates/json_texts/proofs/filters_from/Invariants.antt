@@ -1,0 +1,11 @@
+-- `filters_from` meets its contract: from each turn on the reader comes to what it comes to from the start.
+use Prim.Native.Nat.{◌-◌}
+use lib.ListN.{length}
+use Rattle.json_texts.proofs.Reading as laws
+use Rattle.json_texts.proofs.filters_from.Given as goal
+
+abbrev pub invariant-loop-t : goal.invariant-loop-t
+invariant-loop-t l = laws.Reading l.text l.table l.initial.scratch l.scratch l.architecture l.from l.at l.end l.count
+
+abbrev pub decreases-loop-t : goal.decreases-loop-t
+decreases-loop-t l = length l.text - l.at

@@ -1,0 +1,13 @@
+-- `long_entry` meets its contract. The loop's invariant: what is left of the halving, from here on, is the whole.
+use mathlib.Core.Path.{◌≡◌}
+use Prim.Native.Nat.{◌+◌, ◌^◌, ◌≤◌}
+use Rattle.definitions.specs.Answer.{halved, turns_long, search_size}
+use Rattle.set_view.specs.Parts.{set_here}
+use Rattle.search_writer.proofs.long_entry.Given as goal
+
+abbrev pub invariant-loop-left : goal.invariant-loop-left
+invariant-loop-left l =
+    (l.width ≡ 2 ^ l.left) × (l.short + l.width ≤ 131072) × (halved (short_by l.s) l.left l.short ≡ turns_long search_size (set_here l.s))
+
+abbrev pub decreases-loop-left : goal.decreases-loop-left
+decreases-loop-left l = l.left

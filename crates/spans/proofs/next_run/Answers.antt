@@ -1,0 +1,37 @@
+-- `next_run` meets its contract: a number with rules is a run by itself, and one without is gathered with those that follow it.
+use mathlib.Core.Path.{refl, sym, ◌∙◌}
+use native.Mathlib.Omega.{arith}
+use Rattle.search_bodies.proofs.Bodies.{entry_room}
+use Rattle.spans.proofs.Reading.{run_plain, run_ruled}
+use Rattle.spans.proofs.next_run.Goals as goal
+
+pub u32_at-number-requires : goal.u32_at-number-requires
+u32_at-number-requires c =
+    let a = c.args in
+    omega (arith, entry_room a.s.now a.c.left a.c.at _ c.requires.1 refl c.requires.0.inside)
+
+pub overflow_add-at : goal.overflow_add-at
+overflow_add-at c =
+    let a = c.args in
+    omega (arith, entry_room a.s.now a.c.left a.c.at _ c.requires.1 refl c.requires.0.inside, c.requires.0.size)
+
+pub u32_at-rules-requires : goal.u32_at-rules-requires
+u32_at-rules-requires c =
+    let a = c.args in
+    omega (arith, entry_room a.s.now a.c.left a.c.at _ c.requires.1 refl c.requires.0.inside)
+
+pub pass-next-requires : goal.pass-next-requires
+pass-next-requires c = c.requires
+
+pub gather-requires : goal.gather-requires
+gather-requires c = c.pass-next.ensures.stands
+
+pub returns-then-rules-eq0 : goal.returns-then-rules-eq0
+returns-then-rules-eq0 c =
+    let a = c.args in
+    run_plain a.s.now a.c c.pass-next.result c.gather.result c.u32_at-number.result c.u32_at-number.ensures (sym c.u32_at-rules.ensures ∙ c.if-rules-eq0.true) c.pass-next.ensures c.gather.ensures
+
+pub returns : goal.returns
+returns c =
+    let a = c.args in
+    run_ruled a.s.now a.c c.pass-next.result c.u32_at-number.result c.u32_at-number.ensures (λ e. c.if-rules-eq0.false (c.u32_at-rules.ensures ∙ e)) c.requires.0 c.pass-next.ensures

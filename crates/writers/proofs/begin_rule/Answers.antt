@@ -1,0 +1,25 @@
+-- `begin_rule` meets its contract: a refusal writes nothing, and else a count of no conditions is put behind the set and the open entry's
+-- count of rules is raised.
+use mathlib.Core.Path.{ap, sym, ◌∙◌}
+use mathlib.Core.List.{List}
+use Prim.Native.Nat.{ℕ, ◌+◌}
+use native.Mathlib.Omega.{arith}
+use Rattle.writers.proofs.Stores.{raised}
+use Rattle.writers.proofs.Codes.{code_zero}
+use Rattle.writers.proofs.Writers.{refused, begun}
+use Rattle.writers.proofs.begin_rule.Goals as goal
+
+pub returns-then-code-ne0 : goal.returns-then-code-ne0
+returns-then-code-ne0 c = refused c.verdict-code.ensures c.if-code-ne0.true c.told.ensures
+
+pub write_u32-requires : goal.write_u32-requires
+write_u32-requires c = let t = code_zero (sym c.verdict-code.ensures ∙ c.if-code-ne0.false) in omega (arith, t.room)
+
+pub raise-requires : goal.raise-requires
+raise-requires c = let t = code_zero (sym c.verdict-code.ensures ∙ c.if-code-ne0.false) in omega (arith, t.room, t.entry)
+
+pub overflow_add-result : goal.overflow_add-result
+overflow_add-result c = let t = code_zero (sym c.verdict-code.ensures ∙ c.if-code-ne0.false) in omega (arith, t.small)
+
+pub returns : goal.returns
+returns c = begun (sym c.verdict-code.ensures ∙ c.if-code-ne0.false) (c.raise.ensures ∙ ap (λ (l : List ℕ). raised l (c.args.w.entry + 4)) c.write_u32.ensures)
