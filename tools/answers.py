@@ -121,6 +121,11 @@ class Function:
     def field(self, place, fields):
         """The new names of what follows a step."""
         callee = place[3]
+        if place[2][0] == "match" and fields:
+            if re.match(r"keys\d+\Z", fields[0]):
+                return ["is", *fields[1:]]
+            if fields[0] == "rest":
+                return ["in_default-own", *fields]
         if fields and place[4]:
             for old, new in place[4]:
                 if fields[0] == old:
@@ -141,6 +146,10 @@ class Function:
             var, rest = m[1], m[2]
             parts = [p for p in rest.split(".")[1:]]
             stripped = [p for k, p in enumerate(parts) if not (p == "before" and all(q == "before" for q in parts[:k]))]
+            if var in self.lent and len(parts) and parts[0].isdigit():
+                names = REQUIRES.get(f"{self.crate}::{self.name}") or []
+                if int(parts[0]) < len(names):
+                    return ".".join([var, names[int(parts[0])], *parts[1:]])
             if var != "c" and var not in own:
                 return m[0]
             if not stripped:
@@ -158,6 +167,16 @@ class Function:
                 if head not in ("ranges", "type_inv", "utf8", "well_formed"):
                     self.report.append(f"no step `{head}` in {m[0]}")
                 return ".".join([var, *stripped])
+            if stripped[1:2] == ["given"] and "slice_known" in place[0]:
+                k = next(i for i, p in enumerate(self.table["places"]) if p[0] == at)
+                name = next((n for n, o in self.table["typed"][k] if short(o) == short(place[2][0])), None)
+                if name:
+                    return ".".join([var, "type_inv", name, *stripped[2:]])
+                self.report.append(f"no type of {m[0]}")
+            if stripped[1:3] == ["given", "1"]:
+                arm = next((p for p in self.chain(place[0]) if p[2][0] == "match"), None)
+                if arm:
+                    return ".".join([var, arm[2][1], "is", *stripped[3:]])
             return ".".join([var, place[2][1], *self.field(place, stripped[1:])])
 
         return re.sub(r"(?<![\w.'-])([a-z]\w*)((?:\.[^\s(){}.;,@\"«»\[\]\\]+)+)", each, text)
@@ -211,6 +230,7 @@ def turn(crate, folder, tables):
             term = line[eq + 2 :].strip() + ("\n" + "\n".join(rest[j + 1 :]) if rest[j + 1 :] else "")
             if var != "c":
                 f.report.append(f"{decl_name} calls its facts `{var}`")
+            f.lent = set(re.findall(r"let (\w+) = c(?:\.before)*\.requires(?= in\b)", term))
             own = set(re.findall(r"let (\w+) = c(?:\.before)*(?= in\b)", term))
             term = f.paths(term, at, own)
             term = re.sub(r"(?<![\w.'-])c(?:\.before)+(?![\w.'-])", "c", term)

@@ -14,4 +14,4 @@ put_filter-requires c =
 
 pub returns : goal.returns
 returns c =
-    done_compiled _ _ _ c.verdict-r.result (λ i. omega (arith, c.shared_slice_known-1.given i)) c.verdict-r.ensures c.if-r-ne0.false c.put_filter.ensures
+    done_compiled _ _ _ c.verdict-r.result (λ i. omega (arith, c.type_inv.set i)) c.verdict-r.ensures c.if-r-ne0.false c.put_filter.ensures

@@ -23,7 +23,7 @@ overflow_add-qword-2 c = omega (arith, c.one_if-masked.ensures, c.one_if-ordered
 pub returns-in-Dword : goal.returns-in-Dword
 returns-in-Dword c =
     let masked = c.one_if-masked.ensures in
-    ((λ f. condition_long_lem c.args.q f refl c.enum_told-1.given.1 ∙ length_shaped c.args.q.operator Dword ∙ rw (← c.is_masked.ensures, masked.0)), omega (arith, masked), omega (arith, masked))
+    ((λ f. condition_long_lem c.args.q f refl c.in-Dword.is ∙ length_shaped c.args.q.operator Dword ∙ rw (← c.is_masked.ensures, masked.0)), omega (arith, masked), omega (arith, masked))
 
 pub returns-in-Qword : goal.returns-in-Qword
 returns-in-Qword c =
@@ -31,4 +31,4 @@ returns-in-Qword c =
     let masked = c.one_if-masked.ensures in
     let ordered = c.one_if-ordered.ensures in
     let long : condition_length q.operator Qword ≡ 4 + c.one_if-ordered.result + 2 * c.one_if-masked.result = length_shaped q.operator Qword ∙ rw (← c.is_masked.ensures, ← c.is_ordered.ensures, masked.0, ordered.0) in
-    ((λ f. condition_long_lem q f refl c.enum_told-in-Qword-1.given.1 ∙ long), omega (arith, masked, ordered), omega (arith, long, (condition_bounds q.operator Qword).1))
+    ((λ f. condition_long_lem q f refl c.in-Qword.is ∙ long), omega (arith, masked, ordered), omega (arith, long, (condition_bounds q.operator Qword).1))

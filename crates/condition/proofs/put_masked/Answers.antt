@@ -9,13 +9,13 @@ put_masked_half-next-requires c = (let n = masked_fits c.args.q c.args.f c.requi
 
 pub put_masked_half-requires : goal.put_masked_half-requires
 put_masked_half-requires c =
-    let room = rw (masked_qword c.args.q c.args.f c.requires.3 c.enum_told-in-Qword-1.given.1) at c.requires.1 in
+    let room = rw (masked_qword c.args.q c.args.f c.requires.3 c.in-Qword.is) at c.requires.1 in
     (omega (arith, c.put_masked_half-next.ensures.spot), omega (arith, c.put_masked_half-next.ensures.spot, c.put_masked_half-next.auto.out, c.requires.2))
 
 pub returns-in-Dword : goal.returns-in-Dword
-returns-in-Dword c = rw (masked_dword c.args.q c.args.f c.requires.3 c.enum_told-1.given.1, ← c.low.ensures, ← c.low-2.ensures, ← c.load_word.ensures) c.put_masked_half-next.ensures
+returns-in-Dword c = rw (masked_dword c.args.q c.args.f c.requires.3 c.in-Dword.is, ← c.low.ensures, ← c.low-2.ensures, ← c.load_word.ensures) c.put_masked_half-next.ensures
 
 pub returns-in-Qword : goal.returns-in-Qword
 returns-in-Qword c =
-    rw (masked_qword c.args.q c.args.f c.requires.3 c.enum_told-in-Qword-1.given.1, ← c.low.ensures, ← c.low-2.ensures, ← c.load_word.ensures, ← c.high.ensures, ← c.high-in-Qword.ensures, ← c.load_word-in-Qword.ensures)
+    rw (masked_qword c.args.q c.args.f c.requires.3 c.in-Qword.is, ← c.low.ensures, ← c.low-2.ensures, ← c.load_word.ensures, ← c.high.ensures, ← c.high-in-Qword.ensures, ← c.load_word-in-Qword.ensures)
     (put_both c.requires.2 c.put_masked_half-next.ensures c.put_masked_half.ensures)

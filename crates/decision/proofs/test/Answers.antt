@@ -4,28 +4,28 @@ use Rattle.decision.proofs.test.Goals as goal
 
 pub returns-in-Eq : goal.returns-in-Eq
 unfolding test
-returns-in-Eq c = rw c.enum_told-1.given.1
+returns-in-Eq c = rw c.in-Eq.is
 
 pub returns-in-Ge : goal.returns-in-Ge
 unfolding test
-returns-in-Ge c = rw c.enum_told-in-Ge-1.given.1
+returns-in-Ge c = rw c.in-Ge.is
 
 pub returns-in-Gt : goal.returns-in-Gt
 unfolding test
-returns-in-Gt c = rw c.enum_told-in-Gt-1.given.1
+returns-in-Gt c = rw c.in-Gt.is
 
 pub returns-in-Le : goal.returns-in-Le
 unfolding test
-returns-in-Le c = rw c.enum_told-in-Le-1.given.1
+returns-in-Le c = rw c.in-Le.is
 
 pub returns-in-Lt : goal.returns-in-Lt
 unfolding test
-returns-in-Lt c = rw c.enum_told-in-Lt-1.given.1
+returns-in-Lt c = rw c.in-Lt.is
 
 pub returns-in-MaskedEq : goal.returns-in-MaskedEq
 unfolding test
-returns-in-MaskedEq c = rw c.enum_told-in-MaskedEq-1.given.1
+returns-in-MaskedEq c = rw c.in-MaskedEq.is
 
 pub returns-in-Ne : goal.returns-in-Ne
 unfolding test
-returns-in-Ne c = rw c.enum_told-in-Ne-1.given.1
+returns-in-Ne c = rw c.in-Ne.is

@@ -2,4 +2,4 @@
 use Rattle.faults.proofs.fits_width.Goals as goal
 
 pub returns-in-Dword : goal.returns-in-Dword
-returns-in-Dword c = rw c.enum_told-1.given.1 c.both.ensures
+returns-in-Dword c = rw c.in-Dword.is c.both.ensures

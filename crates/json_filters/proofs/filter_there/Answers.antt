@@ -40,14 +40,14 @@ returns-then-p c =
 pub write_set-end-requires : goal.write_set-end-requires
 write_set-end-requires c =
     let k = came c.fields_there-f.ensures.0 c.if-f-ne0.false in
-    (raw_lines _ _ (λ i. omega (arith, c.shared_slice_known-2-1.given i)) c.requires.1 c.fields_there-f.ensures.1 c.requires.3 k (whole_filter k.value.gathered (sym c.all_given.ensures ∙ not-false _ c.if-not-all_given.false-raw)) c.if-p.false).raw
+    (raw_lines _ _ (λ i. omega (arith, c.type_inv.table i)) c.requires.1 c.fields_there-f.ensures.1 c.requires.3 k (whole_filter k.value.gathered (sym c.all_given.ensures ∙ not-false _ c.if-not-all_given.false-raw)) c.if-p.false).raw
 
 -- src/lib.rt:283:1
 pub returns : goal.returns
 returns c =
     let k = came c.fields_there-f.ensures.0 c.if-f-ne0.false in
     let w = whole_filter k.value.gathered (sym c.all_given.ensures ∙ not-false _ c.if-not-all_given.false-raw) in
-    let raw = raw_lines _ _ (λ i. omega (arith, c.shared_slice_known-2-1.given i)) c.requires.1 c.fields_there-f.ensures.1 c.requires.3 k w c.if-p.false in (
+    let raw = raw_lines _ _ (λ i. omega (arith, c.type_inv.table i)) c.requires.1 c.fields_there-f.ensures.1 c.requires.3 k w c.if-p.false in (
       (λ name. filter_written name c.args.table.now _ c.requires.2.known c.requires.2.named c.requires.3 c.fields_there-f.ensures.1 k w c.if-p.false raw.raw raw.same (c.write_set-end.ensures raw.raw)),
       (c.write_set-end.ensures raw.raw).whole ∙ c.fields_there-f.ensures.1.whole,
       k.place.inside,

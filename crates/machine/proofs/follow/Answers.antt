@@ -28,13 +28,13 @@ pub loop-place-smaller : goal.loop-place-smaller
 loop-place-smaller c = omega (arith, c.target-place.ensures)
 
 pub loop-place-preserved : goal.loop-place-preserved
-loop-place-preserved c = (omega (arith, c.target-place.ensures), c.execute-done.ensures.long, c.loop-place.invariant.2 ∙ follow_next _ _ _ _ _ _ c.loop-place-test.true _ c.instruction_at.ensures _ c.execute-done.ensures _ _ c.way-1.given.1 c.target-place.ensures)
+loop-place-preserved c = (omega (arith, c.target-place.ensures), c.execute-done.ensures.long, c.loop-place.invariant.2 ∙ follow_next _ _ _ _ _ _ c.loop-place-test.true _ c.instruction_at.ensures _ c.execute-done.ensures _ _ c.in-Next.is c.target-place.ensures)
 
 pub returns-in-Returns : goal.returns-in-Returns
-returns-in-Returns c = sym (c.loop-place.invariant.2 ∙ follow_returns _ _ _ _ _ _ c.loop-place-test.true _ c.instruction_at.ensures _ c.execute-done.ensures _ c.way-in-Returns-1.given.1)
+returns-in-Returns c = sym (c.loop-place.invariant.2 ∙ follow_returns _ _ _ _ _ _ c.loop-place-test.true _ c.instruction_at.ensures _ c.execute-done.ensures _ c.in-Returns.is)
 
 pub returns-in-Stuck : goal.returns-in-Stuck
-returns-in-Stuck c = c.refused.ensures ∙ sym (c.loop-place.invariant.2 ∙ follow_stuck _ _ _ _ _ _ c.loop-place-test.true _ c.instruction_at.ensures _ c.execute-done.ensures c.enum_told-1.given.1)
+returns-in-Stuck c = c.refused.ensures ∙ sym (c.loop-place.invariant.2 ∙ follow_stuck _ _ _ _ _ _ c.loop-place-test.true _ c.instruction_at.ensures _ c.execute-done.ensures c.in-Stuck.is)
 
 pub returns : goal.returns
 returns c = c.refused-2.ensures ∙ sym (c.loop-place.invariant.2 ∙ follow_end _ _ _ _ _ _ c.loop-place-test.false)

@@ -10,7 +10,7 @@ u32_at-requires c = omega (arith, word_inside c.args.k (sym c.in_call.ensures �
 
 pub returns-then-in_call : goal.returns-then-in_call
 unfolding into_a
-returns-then-in_call c = rw (fetch_at c.args.call.now (λ i. (c.shared_slice_known-1.given i).fits) c.requires.0 c.args.k (sym c.in_call.ensures ∙ c.if-in_call.true), into_a, ← c.u32_at.ensures) c.set_a.ensures
+returns-then-in_call c = rw (fetch_at c.args.call.now (λ i. (c.type_inv.call i).fits) c.requires.0 c.args.k (sym c.in_call.ensures ∙ c.if-in_call.true), into_a, ← c.u32_at.ensures) c.set_a.ensures
 
 pub returns : goal.returns
 unfolding into_a

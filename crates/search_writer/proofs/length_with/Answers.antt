@@ -10,7 +10,7 @@ use Rattle.search_writer.proofs.length_with.Goals as goal
 pub put_planted-behind-requires : goal.put_planted-behind-requires
 put_planted-behind-requires c =
     let given = c.requires in
-    record { end_in_bounds = (omega arith, given.0.0.head, given.0.0.size, omega (arith, given.0.0.entries, first_inside c.args.s.now c.args.n _ 16 given.0.1)); total_value = given.1 }
+    record { end_in_bounds = (omega arith, given.readable.0.head, given.readable.0.size, omega (arith, given.readable.0.entries, first_inside c.args.s.now c.args.n _ 16 given.readable.1)); total_value = given.total_value }
 
 pub overflow_add-result : goal.overflow_add-result
 overflow_add-result c = omega (arith, c.head_length.ensures.1, c.put_planted-behind.ensures.0)

@@ -11,7 +11,7 @@ pub returns-then-n-eq0 : goal.returns-then-n-eq0
 returns-then-n-eq0 c =
     let a = c.args in
     let given = c.requires in
-    (omega (arith, given.1), λ z w. rw (planted_bodies a.s.now a.n c.if-n-eq0.true) (given.1.0, w))
+    (omega (arith, given.total_value), λ z w. rw (planted_bodies a.s.now a.n c.if-n-eq0.true) (given.total_value.0, w))
 
 pub put_tree-tree-requires : goal.put_tree-tree-requires
 put_tree-tree-requires c =
@@ -21,7 +21,7 @@ put_tree-tree-requires c =
     let b = bodies_there s a.n 16 (number_at 4 s 8) (number_at 4 s 4) in
     let t = spans_there s a.n 16 c.if-n-eq0.false in
     let e = entries_eight s a.n 16 in
-    record { stands = (record { inside = given.0.3; size = given.0.2; place = sym given.1.0 }, omega (arith, c.count_runs-runs.ensures), omega arith, λ z. omega (arith, c.count_runs-runs.ensures)); ready = omega (arith, given.0, given.1, c.count_runs-runs.ensures) }
+    record { stands = (record { inside = given.end_in_bounds.3; size = given.end_in_bounds.2; place = sym given.total_value.0 }, omega (arith, c.count_runs-runs.ensures), omega arith, λ z. omega (arith, c.count_runs-runs.ensures)); ready = omega (arith, given.end_in_bounds, given.total_value, c.count_runs-runs.ensures) }
 
 pub returns : goal.returns
 returns c =
@@ -29,6 +29,6 @@ returns c =
     let given = c.requires in
     let s = a.s.now in
     let e = entries_eight s a.n 16 in (
-      omega (arith, c.put_tree-tree.ensures.0, given.0, given.1, c.count_runs-runs.ensures),
-      planted_there s a.n a.total c.count_runs-runs.result c.u32_at.result c.u32_at-2.result c.u32_at.ensures c.u32_at-2.ensures given.1.0 c.count_runs-runs.ensures.0 (c.put_tree-tree.ensures.1 c.count_runs-runs.result (omega arith)),
+      omega (arith, c.put_tree-tree.ensures.0, given.end_in_bounds, given.total_value, c.count_runs-runs.ensures),
+      planted_there s a.n a.total c.count_runs-runs.result c.u32_at.result c.u32_at-2.result c.u32_at.ensures c.u32_at-2.ensures given.total_value.0 c.count_runs-runs.ensures.0 (c.put_tree-tree.ensures.1 c.count_runs-runs.result (omega arith)),
     )

@@ -20,4 +20,4 @@ returns c =
     let s = a.s.now in
     let k = search_long s in
     rw (search_is s, c.put_head.ensures.0, c.u32_at.ensures, c.put_searched.ensures, c.u32_at-n.ensures)
-    (head_put _ a.count _ _ (omega (arith, given.1)) given.1.1)
+    (head_put _ a.count _ _ (omega (arith, given.count_value)) given.count_value.1)
