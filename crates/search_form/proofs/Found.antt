@@ -159,7 +159,7 @@ module _ (c : Call) (s : State) (word : ℕ) (known : s.A ≡ word) where
         → Ready (record { code = q; match_return = f.match_return; mismatch_return = f.mismatch_return; at = at })
     ready_over f q at o h = record {
       on_match = λ x. ends_over f.match_return f.code q (returns m) 1 o (h.on_match x);
-      on_mismatch = λ x. ends_over f.mismatch_return f.code q (returns d) 1 o (h.onMismatch x);
+      on_mismatch = λ x. ends_over f.mismatch_return f.code q (returns d) 1 o (h.on_mismatch x);
     }
 
     -- ---- a tree in a block of at most `top` instructions: one instruction a comparison, and one more
@@ -172,7 +172,7 @@ module _ (c : Call) (s : State) (word : ℕ) (known : s.A ≡ word) where
     leaf_followed : (top : ℕ) (to : Destination) (f : Form) → top ≤ length f.code + jump_reach → Ready f → Followed top f (plant_leaf m d to f) to 0
     unfolding plant_leaf Leads
     leaf_followed top to_mismatch f l h =
-        let x = return_ends jump_reach d f.mismatch_return f.code (omega arith) h.onMismatch in
+        let x = return_ends jump_reach d f.mismatch_return f.code (omega arith) h.on_mismatch in
         let o = return_over jump_reach d f.mismatch_return f.code in
         record {
           ready = record { on_match = λ q. ends_over f.match_return f.code _ (returns m) 1 o (h.on_match q); on_mismatch = λ q. x };
@@ -184,7 +184,7 @@ module _ (c : Call) (s : State) (word : ℕ) (known : s.A ≡ word) where
         let x = return_ends jump_reach m f.match_return f.code (omega arith) h.on_match in
         let o = return_over jump_reach m f.match_return f.code in
         record {
-          ready = record { on_match = λ q. x; on_mismatch = λ q. ends_over f.mismatch_return f.code _ (returns d) 1 o (h.onMismatch q) };
+          ready = record { on_match = λ q. x; on_mismatch = λ q. ends_over f.mismatch_return f.code _ (returns d) 1 o (h.on_mismatch q) };
           over = o;
           upto = λ r b e. rw e.0 (ends_more _ _ (returns m) 1 (b + 1) (omega arith) x);
           tight = λ r b q e. rw e.0 (ends_more _ _ (returns m) 1 (b + 0) (omega (arith, e.1)) x);
@@ -202,7 +202,7 @@ module _ (c : Call) (s : State) (word : ℕ) (known : s.A ≡ word) where
     unfolding open_block
     block_ready f h = record {
       on_match = λ x. ends_over f.match_return f.code _ (returns m) 1 (return_over block_reach d f.mismatch_return f.code) (h.on_match x);
-      on_mismatch = λ x. return_ends block_reach d f.mismatch_return f.code (omega arith) h.onMismatch;
+      on_mismatch = λ x. return_ends block_reach d f.mismatch_return f.code (omega arith) h.on_mismatch;
     }
 
     block_over : (f : Form) → Over f.code (open_block d f).code
