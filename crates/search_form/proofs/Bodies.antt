@@ -32,6 +32,7 @@ onto_load : (w : Width) (p q : List Instruction) → Opens p → Opens q → Ope
 onto_load Dword p q a b = b
 onto_load Qword (i ∷ p) q (loads k r) b = loads k _
 onto_load Qword (i ∷ p) q (returning k r) b = returning k _
+onto_load Qword [] q a b = elim a [ ]
 
 opens_append : (p q : List Instruction) → Opens p → Opens (p ++ q)
 opens_append p q (loads k r) = loads k _

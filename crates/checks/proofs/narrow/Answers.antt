@@ -9,10 +9,10 @@ pub narrow_at-requires : goal.narrow_at-requires
 narrow_at-requires c = rw c.target.ensures (ltb-true _ 4096 (rw c.in-Jumps.is at c.requires.2))
 
 pub narrow_at-requires-in-Branches : goal.narrow_at-requires-in-Branches
-narrow_at-requires-in-Branches c = rw c.target-in-Branches.ensures (branch_ends (c.args.at + 1 + c.e-in-Branches-1.given.0.0) (c.args.at + 1 + c.e-in-Branches-1.given.0.1.0) (rw c.in-Branches.is at c.requires.2)).1
+narrow_at-requires-in-Branches c = rw c.target-in-Branches.ensures (branch_ends (c.args.at + 1 + c.in-Branches.t) (c.args.at + 1 + c.in-Branches.f) (rw c.in-Branches.is at c.requires.2)).1
 
 pub narrow_at-requires-in-Branches-2 : goal.narrow_at-requires-in-Branches-2
-narrow_at-requires-in-Branches-2 c = rw c.target-in-Branches-2.ensures (branch_ends (c.args.at + 1 + c.e-in-Branches-1.given.0.0) (c.args.at + 1 + c.e-in-Branches-1.given.0.1.0) (rw c.in-Branches.is at c.requires.2)).0
+narrow_at-requires-in-Branches-2 c = rw c.target-in-Branches-2.ensures (branch_ends (c.args.at + 1 + c.in-Branches.t) (c.args.at + 1 + c.in-Branches.f) (rw c.in-Branches.is at c.requires.2)).0
 
 pub returns-in-Plain : goal.returns-in-Plain
 returns-in-Plain c = rw c.in-Plain.is (c.requires.0, λ d k l. refl)
@@ -24,10 +24,10 @@ pub returns-in-Writes : goal.returns-in-Writes
 returns-in-Writes c = rw c.in-Writes.is (c.requires.0, λ d k l. refl)
 
 pub returns-in-Jumps : goal.returns-in-Jumps
-returns-in-Jumps c = rw c.in-Jumps.is (narrow_jump c.args.ahead.now _ _ c.e-1.given.0.0 _ _ c.requires.0 (rw c.in-Jumps.is at c.requires.2) c.target.ensures c.narrow_at.ensures)
+returns-in-Jumps c = rw c.in-Jumps.is (narrow_jump c.args.ahead.now _ _ c.in-Jumps.k _ _ c.requires.0 (rw c.in-Jumps.is at c.requires.2) c.target.ensures c.narrow_at.ensures)
 
 pub returns-in-Branches : goal.returns-in-Branches
-returns-in-Branches c = rw c.in-Branches.is (narrow_branch c.args.ahead.now _ _ _ c.e-in-Branches-1.given.0.0 c.e-in-Branches-1.given.0.1.0 _ _ _ c.requires.0 (rw c.in-Branches.is at c.requires.2) c.target-in-Branches.ensures c.narrow_at-in-Branches.ensures c.target-in-Branches-2.ensures c.narrow_at-in-Branches-2.ensures)
+returns-in-Branches c = rw c.in-Branches.is (narrow_branch c.args.ahead.now _ _ _ c.in-Branches.t c.in-Branches.f _ _ _ c.requires.0 (rw c.in-Branches.is at c.requires.2) c.target-in-Branches.ensures c.narrow_at-in-Branches.ensures c.target-in-Branches-2.ensures c.narrow_at-in-Branches-2.ensures)
 
 pub returns-in-Leaves : goal.returns-in-Leaves
 returns-in-Leaves c = rw c.in-Leaves.is (c.requires.0, λ d k l. refl)

@@ -8,7 +8,7 @@ returns c = (
   refl,
   refl,
   refl,
-  λ ts p k h. fields.kept_more _ _ _ _ ts p (record {
+  λ ts p k h. fields.kept_more c.args.field c.args.part c.args.g _ ts p (record {
     indexed = c.either-indexed.ensures;
     sized = c.either-sized.ensures;
     compared = c.either-compared.ensures;
