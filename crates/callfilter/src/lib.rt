@@ -1,5 +1,5 @@
-// The entry points that a host calls, exported under their C names. None asks anything of its caller: bad input gets its answer, and a
-// refusal writes nothing.
+// The entry points that a host calls; `callfilter_c` exports them under the same names. None asks anything of its caller: bad input gets its
+// answer, and a refusal writes nothing.
 #![tactic(auto)]
 
 ghost use Rattle.std.specs.Prelude.{◌≡◌, true, false, not, eqb, ltb, ◌+◌, ◌*◌, ◌^◌, ◌≤◌};
@@ -24,8 +24,7 @@ const TOO_MANY: usize = 4097;
 // The version, as major, minor and patch, a byte each. The name has the number of the binary interface, which is raised whenever a struct,
 // a signature or what a number means changes: the header and the crate ask for it by name, so that neither links with an archive that it
 // was not made for.
-#[unsafe(no_mangle)]
-pub extern "C" fn callfilter_abi_1() -> u32
+pub fn callfilter_abi_1() -> u32
     ensures { result ≡ 0 * 2 ^ 16 + 1 * 2 ^ 8 + 0 }
 {
     0x000100
@@ -70,8 +69,7 @@ fn verdict(set: &[u8], room: usize) -> Answer
 }
 
 // Compiles a rule set into a lent buffer.
-#[unsafe(no_mangle)]
-pub extern "C" fn callfilter_compile(set: &[u8], out: &mut [u8]) -> Answer
+pub fn callfilter_compile(set: &[u8], out: &mut [u8]) -> Answer
     ensures { Compiled set.now out.old out.new result }
 {
     let r = verdict(set, out.len());
@@ -107,8 +105,7 @@ fn search_verdict(set: &[u8], room: usize) -> Answer
 }
 
 // Compiles a rule set into a lent buffer, as a search.
-#[unsafe(no_mangle)]
-pub extern "C" fn callfilter_compile_search(set: &[u8], out: &mut [u8]) -> Answer
+pub fn callfilter_compile_search(set: &[u8], out: &mut [u8]) -> Answer
     ensures { Searched set.now out.old out.new result }
 {
     let answer = search_verdict(set, out.len());
@@ -121,40 +118,35 @@ pub extern "C" fn callfilter_compile_search(set: &[u8], out: &mut [u8]) -> Answe
 }
 
 // Whether the kernel would take a filter.
-#[unsafe(no_mangle)]
-pub extern "C" fn callfilter_accepts(filter: &[u8]) -> bool
+pub fn callfilter_accepts(filter: &[u8]) -> bool
     ensures { result ≡ accepts_bytes filter.now }
 {
     checks::accepts(filter)
 }
 
 // What a filter does with a call.
-#[unsafe(no_mangle)]
-pub extern "C" fn callfilter_run(filter: &[u8], call: &[u8]) -> Outcome
+pub fn callfilter_run(filter: &[u8], call: &[u8]) -> Outcome
     ensures { result ≡ outcome_of filter.now call.now }
 {
     machine::run(filter, call)
 }
 
 // What a filter does with each of many calls.
-#[unsafe(no_mangle)]
-pub extern "C" fn callfilter_run_all(filter: &[u8], calls: &[u8], out: &mut [u8]) -> u32
+pub fn callfilter_run_all(filter: &[u8], calls: &[u8], out: &mut [u8]) -> u32
     ensures { RanAll filter.now calls.now out.old out.new result }
 {
     machine::run_all(filter, calls, out)
 }
 
 // What a rule set means for a call.
-#[unsafe(no_mangle)]
-pub extern "C" fn callfilter_decide(set: &[u8], call: &[u8]) -> Decision
+pub fn callfilter_decide(set: &[u8], call: &[u8]) -> Decision
     ensures { result ≡ decided_of set.now call.now }
 {
     decision::decide(set, call)
 }
 
 // Starts a set in a lent buffer: nothing is listed in it yet.
-#[unsafe(no_mangle)]
-pub extern "C" fn callfilter_start(
+pub fn callfilter_start(
     out: &mut [u8],
     architecture: u32,
     mismatch: u32,
@@ -166,24 +158,21 @@ pub extern "C" fn callfilter_start(
 }
 
 // Lists a number, which matches whatever its arguments are until a rule is begun for it.
-#[unsafe(no_mangle)]
-pub extern "C" fn callfilter_list(out: &mut [u8], writer: Writer, number: u32) -> Writer
+pub fn callfilter_list(out: &mut [u8], writer: Writer, number: u32) -> Writer
     ensures { Added (some (with_entry number)) true 8 out.old out.new writer result }
 {
     writers::list(out, writer, number)
 }
 
 // Begins a rule for the number that was listed last.
-#[unsafe(no_mangle)]
-pub extern "C" fn callfilter_begin_rule(out: &mut [u8], writer: Writer) -> Writer
+pub fn callfilter_begin_rule(out: &mut [u8], writer: Writer) -> Writer
     ensures { Added (some with_rule) (not (eqb writer.entry 0)) 4 out.old out.new writer result }
 {
     writers::begin_rule(out, writer)
 }
 
 // Adds a condition to the rule that was begun last.
-#[unsafe(no_mangle)]
-pub extern "C" fn callfilter_add_condition(
+pub fn callfilter_add_condition(
     out: &mut [u8],
     writer: Writer,
     index: u8,
@@ -198,32 +187,28 @@ pub extern "C" fn callfilter_add_condition(
 }
 
 // Reads the head of a set.
-#[unsafe(no_mangle)]
-pub extern "C" fn callfilter_read_head(set: &[u8]) -> Head
+pub fn callfilter_read_head(set: &[u8]) -> Head
     ensures { result ≡ readers.head_of set.now }
 {
     readers::read_head(set)
 }
 
 // Reads the number that is listed next, once all rules of the last one are read.
-#[unsafe(no_mangle)]
-pub extern "C" fn callfilter_next_entry(set: &[u8], cursor: Cursor) -> Listed
+pub fn callfilter_next_entry(set: &[u8], cursor: Cursor) -> Listed
     ensures { result ≡ readers.entry_of set.now cursor }
 {
     readers::next_entry(set, cursor)
 }
 
 // Goes on to the next rule, once all conditions of the last one are read.
-#[unsafe(no_mangle)]
-pub extern "C" fn callfilter_next_rule(set: &[u8], cursor: Cursor) -> Cursor
+pub fn callfilter_next_rule(set: &[u8], cursor: Cursor) -> Cursor
     ensures { result ≡ readers.rule_of set.now cursor }
 {
     readers::next_rule(set, cursor)
 }
 
 // Reads the next condition of the open rule.
-#[unsafe(no_mangle)]
-pub extern "C" fn callfilter_next_condition(set: &[u8], cursor: Cursor) -> Compared
+pub fn callfilter_next_condition(set: &[u8], cursor: Cursor) -> Compared
     ensures { result ≡ readers.compared_of set.now cursor }
 {
     readers::next_condition(set, cursor)
