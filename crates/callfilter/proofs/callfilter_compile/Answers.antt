@@ -10,7 +10,7 @@ returns-then-r-ne0 c = refused_compiled c.verdict-r.ensures c.if-r-ne0.true refl
 pub put_filter-requires : goal.put_filter-requires
 put_filter-requires c =
     let w = writable _ _ c.verdict-r.result c.verdict-r.ensures c.if-r-ne0.false in
-    w
+    record { readable = w.0; s_in_bounds = w.1 }
 
 pub returns : goal.returns
 returns c =

@@ -13,7 +13,7 @@ put_entries-end-requires c =
     let n = filter_length_lem c.args.s.now in
     let at = rw (c.u32_at.ensures, c.u32_at-n.ensures) at c.put_head-at.ensures.1 in
     rw (c.u32_at-n.ensures, c.u32_at-m.ensures, c.u32_at-d.ensures)
-    ((c.requires.readable.entries, c.requires.readable.size), omega (arith, c.requires.s_in_bounds, c.put_head-at.auto.out))
+    (record { reach = (c.requires.readable.entries, c.requires.readable.size); from_in_bounds = omega (arith, c.requires.s_in_bounds, c.put_head-at.auto.out) })
 
 pub put-requires : goal.put-requires
 put-requires c =

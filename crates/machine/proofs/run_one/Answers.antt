@@ -10,4 +10,4 @@ follow-o-requires c = (accepts_short _ c.requires.0, rw (length-take, length-dro
 
 pub returns : goal.returns
 returns c =
-    put_one _ _ _ _ _ _ _ c.requires.0 (part_call c.args.calls.now c.args.i) (omega arith) c.follow-o.ensures (omega (arith, c.follow-o.type-inv)) (omega (arith, c.follow-o.type-inv)) (omega arith) c.write_outcome.ensures
+    put_one _ _ _ _ _ _ _ c.requires.0 (part_call c.args.calls.now c.args.i) (omega arith) c.follow-o.ensures (omega (arith, c.follow-o.type_inv)) (omega (arith, c.follow-o.type_inv)) (omega arith) c.write_outcome.ensures
