@@ -133,8 +133,8 @@ fn value_there(
     field: u64,
     p: Parts,
 ) -> Turn
-    requires { (at ≤ length (now text)) × Lent (now text) (now table) (now scratch) × (field ≤ 2) }
-    ensures { GathersOn (now text.entry) at (now table.entry) (now scratch.entry) (now scratch.exit) field p result × Untouched (length (now text.entry)) (now scratch.entry) (now scratch.exit) }
+    requires { (at ≤ length text.now) × Lent text.now table.now scratch.old × (field ≤ 2) }
+    ensures { GathersOn text.now at table.now scratch.old scratch.new field p result × Untouched (length text.now) scratch.old scratch.new }
 {
     if field == 2 {
         let t = text.len();
@@ -165,8 +165,8 @@ fn value_there(
 
 // A key, its value, and what stands behind it.
 fn field_turn(text: &[u8], at: usize, table: &[u8], scratch: &mut [u8], p: Parts) -> Turn
-    requires { (at ≤ length (now text)) × Lent (now text) (now table) (now scratch) }
-    ensures { ((ts : List (Typed FilterPart)) → Gathered (table_slots (now table.entry)) (length (now text.entry)) (now scratch.entry) p ts → Tells (now text.entry) at (λ u. (result.more ≡ u.more) × TurnHeld (table_slots (now table.entry)) (now text.entry) (now scratch.exit) result u.gathered) (field_turn filter_keys (filter_reads (judges_of (table_slots (now table.entry)))) ts (drop at (now text.entry))) result.code result.at) × Untouched (length (now text.entry)) (now scratch.entry) (now scratch.exit) }
+    requires { (at ≤ length text.now) × Lent text.now table.now scratch.old }
+    ensures { ((ts : List (Typed FilterPart)) → Gathered (table_slots table.now) (length text.now) scratch.old p ts → Tells text.now at (λ u. (result.more ≡ u.more) × TurnHeld (table_slots table.now) text.now scratch.new result u.gathered) (field_turn filter_keys (filter_reads (judges_of (table_slots table.now))) ts (drop at text.now)) result.code result.at) × Untouched (length text.now) scratch.old scratch.new }
 {
     let from = skip_blanks(text, at);
     let key = field_there(text, from, 2);
@@ -196,8 +196,8 @@ fn field_turn(text: &[u8], at: usize, table: &[u8], scratch: &mut [u8], p: Parts
 
 // All fields of an object, from behind its brace on.
 fn field_turns(text: &[u8], at: usize, table: &[u8], scratch: &mut [u8]) -> Turn
-    requires { (at ≤ length (now text)) × Lent (now text) (now table) (now scratch) }
-    ensures { Tells (now text.entry) at (AllGathered (table_slots (now table.entry)) (now text.entry) (now scratch.exit) result) (field_turns filter_keys (filter_reads (judges_of (table_slots (now table.entry)))) (length (drop at (now text.entry))) [] (drop at (now text.entry))) result.code result.at × Untouched (length (now text.entry)) (now scratch.entry) (now scratch.exit) }
+    requires { (at ≤ length text.now) × Lent text.now table.now scratch.old }
+    ensures { Tells text.now at (AllGathered (table_slots table.now) text.now scratch.new result) (field_turns filter_keys (filter_reads (judges_of (table_slots table.now))) (length (drop at text.now)) [] (drop at text.now)) result.code result.at × Untouched (length text.now) scratch.old scratch.new }
 {
     let mut p = no_parts();
     let mut next = at;
@@ -221,8 +221,8 @@ fn field_turns(text: &[u8], at: usize, table: &[u8], scratch: &mut [u8]) -> Turn
 
 // The object of a filter: its fields.
 fn fields_there(text: &[u8], at: usize, table: &[u8], scratch: &mut [u8]) -> Turn
-    requires { (at ≤ length (now text)) × Lent (now text) (now table) (now scratch) }
-    ensures { Tells (now text.entry) at (AllGathered (table_slots (now table.entry)) (now text.entry) (now scratch.exit) result) (object_there (key_judge filter_keys) (key_step filter_keys (filter_reads (judges_of (table_slots (now table.entry))))) [] (drop at (now text.entry))) result.code result.at × Untouched (length (now text.entry)) (now scratch.entry) (now scratch.exit) }
+    requires { (at ≤ length text.now) × Lent text.now table.now scratch.old }
+    ensures { Tells text.now at (AllGathered (table_slots table.now) text.now scratch.new result) (object_there (key_judge filter_keys) (key_step filter_keys (filter_reads (judges_of (table_slots table.now)))) [] (drop at text.now)) result.code result.at × Untouched (length text.now) scratch.old scratch.new }
 {
     let open = open_there(text, at, 0x7b);
     if open.code != 0 {
@@ -265,8 +265,8 @@ fn refused(code: u32, at: usize) -> FilterRead
 
 // Writes the set of the entries in the second part of scratch behind a place.
 fn write_set(scratch: &mut [u8], t: usize, place: usize, architecture: u32, p: Parts) -> usize
-    requires { Raw (now scratch) t p.count (place + 16) }
-    ensures { (raw : Raw (now scratch.entry) t p.count (place + 16)) → Behind place (now scratch.entry) (now scratch.exit) (set_bytes architecture p.mismatch p.on_match (collected way.join raw.entries)) result }
+    requires { Raw scratch.old t p.count (place + 16) }
+    ensures { (raw : Raw scratch.old t p.count (place + 16)) → Behind place scratch.old scratch.new (set_bytes architecture p.mismatch p.on_match (collected way.join raw.entries)) result }
 {
     let c = collect::collect(scratch, t, p.count, place + 16);
     let count = c.count;
@@ -286,8 +286,8 @@ pub fn filter_there(
     scratch: &mut [u8],
     place: usize,
 ) -> FilterRead
-    requires { (at ≤ length (now text)) × Lent (now text) (now table) (now scratch) × Known architecture × (place ≤ at + 5) }
-    ensures { ((name : List ℕ) → Tells (now text.entry) at (SetWritten (table_slots (now table.entry)) architecture place (now scratch.entry) (now scratch.exit) result.end result.at) (filter_there (judges_of (table_slots (now table.entry))) name (drop at (now text.entry))) result.code result.at) × (length (now scratch.exit) ≡ length (now scratch.entry)) × (result.at ≤ length (now text.entry)) }
+    requires { (at ≤ length text.now) × Lent text.now table.now scratch.old × Known architecture × (place ≤ at + 5) }
+    ensures { ((name : List ℕ) → Tells text.now at (SetWritten (table_slots table.now) architecture place scratch.old scratch.new result.end result.at) (filter_there (judges_of (table_slots table.now)) name (drop at text.now)) result.code result.at) × (length scratch.new ≡ length scratch.old) × (result.at ≤ length text.now) }
 {
     let f = fields_there(text, at, table, scratch);
     let p = f.parts;

@@ -10,7 +10,7 @@ use Rattle.search_writer.proofs.Planting.{mismatch_leaf, link_makes, chain_none,
 use Rattle.search_writer.proofs.+put_chain.Goals as goal
 
 pub put_mismatch-requires : goal.put_mismatch-requires
-put_mismatch-requires t c = omega (arith, c.requires.1.ready)
+put_mismatch-requires t c = omega (arith, c.requires.ready)
 
 pub returns-then-n-eq0 : goal.returns-then-n-eq0
 returns-then-n-eq0 t c =
@@ -19,19 +19,19 @@ returns-then-n-eq0 t c =
     (omega (arith, c.put_mismatch.ensures.0), rw e (mismatch_leaf a.plan.m a.plan.d c.put_mismatch.ensures.1))
 
 pub next_run-run-requires : goal.next_run-run-requires
-next_run-run-requires t c = (c.requires.1.stands.0, span_left c.args.s.now c.args.c c.args.n c.if-n-eq0.false c.requires.1.stands.1)
+next_run-run-requires t c = (c.requires.stands.0, span_left c.args.s.now c.args.c c.args.n c.if-n-eq0.false c.requires.stands.1)
 
 pub put_interval-requires : goal.put_interval-requires
-put_interval-requires t c = (omega (arith, c.requires.1.ready, c.if-n-eq0.false), omega (arith, c.next_run-run.ensures.place, c.requires.1.stands.2), c.if-run.true)
+put_interval-requires t c = (omega (arith, c.requires.ready, c.if-n-eq0.false), omega (arith, c.next_run-run.ensures.place, c.requires.stands.2), c.if-run.true)
 
 pub returns-then-run : goal.returns-then-run
 returns-then-run t c =
     let a = c.args in
-    let e = chain_one a.from a.below a.n (span_of c.next_run-run.result) _ _ c.if-n-eq0.false c.next_run-run.ensures.spans c.if-run.true c.requires.1.stands.3 in
+    let e = chain_one a.from a.below a.n (span_of c.next_run-run.result) _ _ c.if-n-eq0.false c.next_run-run.ensures.spans c.if-run.true c.requires.stands.3 in
     (omega (arith, c.put_interval.ensures.0, c.if-n-eq0.false), rw e c.put_interval.ensures.1)
 
 pub put_leaf-hit-requires : goal.put_leaf-hit-requires
-put_leaf-hit-requires t c = (omega (arith, c.requires.1.ready), omega (arith, c.next_run-run.ensures.place, c.requires.1.stands.2))
+put_leaf-hit-requires t c = (omega (arith, c.requires.ready), omega (arith, c.next_run-run.ensures.place, c.requires.stands.2))
 
 pub overflow_sub-n : goal.overflow_sub-n
 overflow_sub-n t c = omega (arith, c.if-n-eq0.false)
@@ -42,20 +42,20 @@ put_chain-miss-requires t c =
     let x = span_of c.next_run-run.result in
     let some = c.if-n-eq0.false in
     let e = c.next_run-run.ensures.spans in (
-      omega (arith, c.requires.0, some),
-      record {
-        stands = (
+      omega (arith, some),
+      (
+        (
           c.next_run-run.ensures.stands,
-          length_less a.n x _ _ some e c.requires.1.stands.1,
-          omega (arith, c.next_run-run.ensures.behind, c.requires.1.stands.2, c.put_leaf-hit.ensures.0),
-          singles_rest a.from a.below a.n x _ _ some e c.requires.1.stands.3,
-        );
-        ready = omega (arith, c.requires.1.ready, c.put_leaf-hit.ensures.0, some, c.put_leaf-hit.auto.out);
-      },
+          length_less a.n x _ _ some e c.requires.stands.1,
+          omega (arith, c.next_run-run.ensures.behind, c.requires.stands.2, c.put_leaf-hit.ensures.0),
+          singles_rest a.from a.below a.n x _ _ some e c.requires.stands.3,
+        ),
+        omega (arith, c.requires.ready, c.put_leaf-hit.ensures.0, some, c.put_leaf-hit.auto.out),
+      ),
     )
 
 pub compare-requires : goal.compare-requires
-compare-requires t c = omega (arith, c.requires.1.ready, c.put_leaf-hit.ensures.0, c.put_chain-miss.ensures.0, c.if-n-eq0.false, c.put_leaf-hit.auto.out, c.put_chain-miss.auto.out)
+compare-requires t c = omega (arith, c.requires.ready, c.put_leaf-hit.ensures.0, c.put_chain-miss.ensures.0, c.if-n-eq0.false, c.put_leaf-hit.auto.out, c.put_chain-miss.auto.out)
 
 pub returns : goal.returns
 returns t c =

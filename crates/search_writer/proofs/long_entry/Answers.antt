@@ -1,17 +1,11 @@
 -- `long_entry` meets its contract. The loop's invariant: what is left of the halving, from here on, is the whole.
 use mathlib.Core.Path.{◌≡◌, refl, sym, ◌∙◌}
 use mathlib.Core.Bool.{Bool, true, false, cond}
-use mathlib.Core.List.{List}
 use Prim.Native.Nat.{ℕ, ◌+◌, ◌/◌, ◌≤◌}
 use native.Mathlib.Omega.{arith}
-use lib.ListN.{take}
-use Rattle.definitions.specs.Answer.{short_with, search_size}
-use Rattle.set_view.specs.Parts.{set_here}
 use Rattle.search_writer.proofs.Turning.{half_width, halved_turn, halved_end}
+use Rattle.search_writer.proofs.long_entry.Invariants.{short_by}
 use Rattle.search_writer.proofs.long_entry.Goals as goal
-
-abbrev short_by : List ℕ → ℕ → Bool
-short_by s n = short_with search_size (set_here s) (take n (set_here s).entries)
 
 pub loop-left-init : goal.loop-left-init
 loop-left-init c = (refl, omega arith, refl)

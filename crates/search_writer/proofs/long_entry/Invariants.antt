@@ -1,9 +1,15 @@
 -- `long_entry` meets its contract. The loop's invariant: what is left of the halving, from here on, is the whole.
 use mathlib.Core.Path.{◌≡◌}
-use Prim.Native.Nat.{◌+◌, ◌^◌, ◌≤◌}
-use Rattle.definitions.specs.Answer.{halved, turns_long, search_size}
+use mathlib.Core.Bool.{Bool}
+use mathlib.Core.List.{List}
+use lib.ListN.{take}
+use Prim.Native.Nat.{ℕ, ◌+◌, ◌^◌, ◌≤◌}
+use Rattle.definitions.specs.Answer.{short_with, halved, turns_long, search_size}
 use Rattle.set_view.specs.Parts.{set_here}
 use Rattle.search_writer.proofs.long_entry.Given as goal
+
+abbrev pub short_by : List ℕ → ℕ → Bool
+short_by s n = short_with search_size (set_here s) (take n (set_here s).entries)
 
 abbrev pub invariant-loop-left : goal.invariant-loop-left
 invariant-loop-left l =
