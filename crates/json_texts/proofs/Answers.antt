@@ -95,7 +95,7 @@ module _ (text table : List ℕ) (architecture scratch : ℕ) (before : List ℕ
                 → sets_of now.join (table_slots table) known (native_of architecture) fs ≡ some sets → sets ≡ read.value.written.sets
             same_sets known sets fs n f m =
                 let w = read.value.written in
-                some_same (sym m ∙ ap (λ (a : Architecture). sets_of now.join (table_slots table) a (native_of architecture) fs) (some_same (sym n ∙ w.is-known))
+                some_same (sym m ∙ ap (λ (a : Architecture). sets_of now.join (table_slots table) a (native_of architecture) fs) (some_same (sym n ∙ w.is_known))
                 ∙ ap (λ (x : List Filter). sets_of now.join (table_slots table) w.known (native_of architecture) x) f ∙ w.made)
 
             bytes : length (joined encode_named read.value.written.sets) ≡ end
@@ -105,7 +105,7 @@ module _ (text table : List ℕ) (architecture scratch : ℕ) (before : List ℕ
             wrote_is =
                 let w = read.value.written in
                 let made : sets_of now.join (table_slots table) k.known (native_of architecture) read.part ≡ some w.sets =
-                ap (λ (a : Architecture). sets_of now.join (table_slots table) a (native_of architecture) read.part) (some_same (sym k.named ∙ w.is-known)) ∙ w.made in
+                ap (λ (a : Architecture). sets_of now.join (table_slots table) a (native_of architecture) read.part) (some_same (sym k.named ∙ w.is_known)) ∙ w.made in
                 ap (λ (n : ℕ). wrote (length before) n end) w.many ∙ ap (λ (n : ℕ). wrote (length before) (length w.sets) n) (sym bytes)
                 ∙ ap (λ (o : Option (List NamedSet)). sets_answer (length before) o) (sym made)
                 ∙ ap (λ (g : Got (List Filter)). read_answer text (sets_of now.join (table_slots table) k.known (native_of architecture)) (length before) g) (sym read.got_it) ∙ read_answer_lem
