@@ -26,8 +26,8 @@ answered_zero size long set room rs e nothing short fits = rw e (no_fault_lem (s
 
 pub search_too : SearchToo
 unfolding search_answer_of
-search_too set before after other-before other_After r s p q more z =
+search_too set before after other_before other_after r s p q more z =
     let k = compiles_in list set (length before) r p.answer z in
     let small = q.shorter k.0 in
     ap (λ (x : Answer). x.code) q.answer
-    ∙ answered_zero _ _ set (length other-before) k.0 k.1.from k.1.nothing (omega (arith, small, k.1.short)) (omega (arith, small, k.1.fits, more))
+    ∙ answered_zero _ _ set (length other_before) k.0 k.1.from k.1.nothing (omega (arith, small, k.1.short)) (omega (arith, small, k.1.fits, more))

@@ -17,9 +17,9 @@ use Rattle.behaviour.specs.Seen.{SeenAlike, from}
 -- of one set and into one form, two write the same bytes, whatever stood in their buffers
 abbrev pub Fixed : Type 0
 Fixed =
-    (o : Output) (set before after other-before other_After : List ℕ) (r s : Answer) → AreBytes set
-    → Promised o set before after r → Promised o set other-before other_After s → r.code ≡ 0 → s.code ≡ 0
-    → filter_in r after ≡ filter_in s other_After
+    (o : Output) (set before after other_before other_after : List ℕ) (r s : Answer) → AreBytes set
+    → Promised o set before after r → Promised o set other_before other_after s → r.code ≡ 0 → s.code ≡ 0
+    → filter_in r after ≡ filter_in s other_after
 
 -- of one rule set, two do the same with every call, also where one is a list and the other a search
 abbrev pub Alike : Type 0
@@ -28,8 +28,8 @@ Alike = (rs : RuleSet) (f g : List ℕ) → FilterOf rs f → FilterOf rs g → 
 -- what compiles as a list compiles as a search, in the same room or more
 abbrev pub SearchToo : Type 0
 SearchToo =
-    (set before after other-before other_After : List ℕ) (r s : Answer)
-    → Compiled set before after r → Searched set other-before other_After s → length before ≤ length other-before
+    (set before after other_before other_after : List ℕ) (r s : Answer)
+    → Compiled set before after r → Searched set other_before other_after s → length before ≤ length other_before
     → r.code ≡ 0 → s.code ≡ 0
 
 -- running what compiling wrote and asking the rule set itself give one action, for every call

@@ -1,10 +1,10 @@
 -- What filters by name mean: a rule set for each, and the byte form of them all.
-use Rattle.std.specs.Prelude.{ℕ, zero, suc, ◌+◌, ◌*◌, ◌≡◌, Bool, true, false, cond, not, ◌&&◌, ◌||◌, List, [], ◌∷◌, ◌++◌, eqb, leb, ltb, length}
+use Rattle.std.specs.Prelude.{ℕ, Bool, true, false, cond, not, ◌&&◌, ◌||◌, List, [], ◌∷◌, ◌++◌, eqb, ltb, length}
 use Rattle.std.proofs.Math.Option.{Option, none, some}
 use Rattle.definitions.specs.Word.{bytes_of}
 use Rattle.definitions.specs.Machine.{Call}
-use Rattle.definitions.specs.RuleSet.{Architecture, architecture_word, Rule, Entry, RuleSet, kill_process, guarded, in_second_table, all_hold, any_holds, meaning}
-use Rattle.definitions.specs.Format.{joined, then, check, encode}
+use Rattle.definitions.specs.RuleSet.{Architecture, architecture_word, Rule, Entry, RuleSet, kill_process, guarded, in_second_table, all_hold, any_holds}
+use Rattle.definitions.specs.Format.{then, check, encode}
 use Rattle.definitions.specs.Answer.{rules_filled, indices_taken, widths_fit}
 use Rattle.definitions.specs.JsonForm.{Line, Filter}
 use Rattle.definitions.specs.CallNames.{Slot, number_for}

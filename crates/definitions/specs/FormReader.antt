@@ -1,16 +1,15 @@
 -- The reader that the code follows, put together: it goes through a text from left to right, knows what is to come, and stops at the first fault
 -- with its number and the text from where the fault is (so that the place is the text's length less that rest's). It needs no belief: `Front` in
 -- proofs says that it reads exactly the texts that the form has.
-use Rattle.std.specs.Prelude.{ℕ, zero, suc, ◌+◌, ◌-◌, ◌*◌, ◌%◌, ◌^◌, Bool, true, false, cond, not, ◌&&◌, ◌||◌, List, [], ◌∷◌, ◌++◌, eqb, leb, length, take, drop}
+use Rattle.std.specs.Prelude.{ℕ, zero, suc, ◌+◌, ◌-◌, ◌%◌, ◌^◌, Bool, true, false, cond, not, ◌&&◌, ◌||◌, List, [], ◌∷◌, ◌++◌, eqb, leb, length, take, drop}
 use Rattle.std.proofs.Math.Option.{Option, none, some}
-use Rattle.definitions.specs.declared.Operator.{Operator}
 use Rattle.definitions.specs.declared.Operator.TheVariants.{MaskedEq}
 use Rattle.definitions.specs.declared.Width.{Width}
 use Rattle.definitions.specs.declared.Condition.{Condition}
 use Rattle.definitions.specs.RuleSet.{Rule}
 use Rattle.definitions.specs.Format.{then, check}
 use Rattle.definitions.specs.Json.{ascii, quote, all, is_digit, Json, null, boolean, number, string, array, object, Values, Members}
-use Rattle.definitions.specs.JsonForm.{same, decimal, Key, field_of, Word, word_of, action_words, numbered_words, width_words, operator_words, Compared, Line, Filter, condition_keys, line_keys, filter_keys, named}
+use Rattle.definitions.specs.JsonForm.{same, decimal, Key, field_of, word_of, action_words, numbered_words, width_words, operator_words, Compared, Line, Filter, condition_keys, line_keys, filter_keys, named}
 use Rattle.definitions.specs.JsonReader.{Got, got, stop, not_json, follow, first, string_at, placed, bad_character, bad_number, number_count, object_at, array_at, blanks, literal_at}
 use Rattle.definitions.specs.Answer.{has_conditions, fits_width}
 use Rattle.definitions.specs.CallNames.{Slot, number_for}

@@ -1,7 +1,7 @@
 -- What JSON values are filters: the keys and words of seccompiler 0.5.0's JSON front end (and `user_notif`, which came after it). Every key that
 -- is not named here is refused, and so is one that an object has twice. Two keys with one field number are two spellings of one key, so that both
 -- in one object are that key twice.
-use Rattle.std.specs.Prelude.{ℕ, zero, suc, ◌+◌, ◌-◌, ◌*◌, ◌%◌, ◌^◌, ◌≡◌, Bool, true, false, cond, not, ◌&&◌, ◌||◌, List, [], ◌∷◌, ◌++◌, eqb, leb}
+use Rattle.std.specs.Prelude.{ℕ, ◌+◌, ◌-◌, ◌*◌, ◌%◌, ◌^◌, Bool, true, false, cond, not, ◌&&◌, ◌||◌, List, [], ◌∷◌, ◌++◌, eqb, leb}
 use Prim.Native.String.{String}
 use Rattle.std.proofs.Math.Option.{Option, none, some}
 use Rattle.definitions.specs.declared.Operator.{Operator}

@@ -1,7 +1,7 @@
 -- A reader of JSON texts, left to right, that stops at the first fault. It needs no belief: what it reads is what RFC 8259 (Text) says.
 -- A reader of a part is handed the text from where the part begins, and gives what the part stands for with the text behind it, or the
 -- number of a fault with the text from where it shows.
-use Rattle.std.specs.Prelude.{ℕ, zero, suc, ◌+◌, ◌-◌, ◌*◌, ◌≡◌, Bool, true, false, cond, not, ◌&&◌, ◌||◌, List, [], ◌∷◌, ◌++◌, eqb, leb, length, take, drop, get_or}
+use Rattle.std.specs.Prelude.{ℕ, zero, suc, ◌+◌, Bool, true, false, cond, not, ◌&&◌, ◌||◌, List, [], ◌∷◌, ◌++◌, eqb, leb, length, take, drop, get_or}
 use Rattle.std.proofs.Math.Option.{Option, none, some}
 use Rattle.definitions.specs.Format.{then, check}
 use Rattle.definitions.specs.Json.{ascii, within, quote, backslash, is_blank, is_unescaped, short_escape, hex_digit, hex4, is_high, is_low, utf8, pair_of, is_digit, Json, null, boolean, number, string, array, object, Values, no_values, value, Members, no_members, member}

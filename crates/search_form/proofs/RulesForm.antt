@@ -3,11 +3,11 @@
 use mathlib.Core.Path.{◌≡◌, refl, ap, ◌∙◌}
 use mathlib.Core.Bool.{Bool, true, false, cond}
 use mathlib.Core.List.{List, [], ◌∷◌}
-use Prim.Native.Nat.{ℕ, suc, ◌+◌, ◌-◌, ◌^◌, ◌≤◌, max}
+use Prim.Native.Nat.{ℕ, ◌+◌, ◌-◌, ◌^◌, ◌≤◌, max}
 use native.Mathlib.Omega.{arith}
 use lib.Dec.{eqb, leb}
 use lib.ListN.{length}
-use Rattle.definitions.specs.Machine.{Call, State, Result, returns, run, steps, set_a, start}
+use Rattle.definitions.specs.Machine.{Call, State, Result, returns, steps, set_a, start}
 use Rattle.definitions.specs.RuleSet.{Rule, Entry, RuleSet, matches, listed, rules_of, together, span_count, no_rules}
 use Rattle.definitions.specs.Compiled.{guard_steps}
 use Rattle.definitions.specs.Format.{Each}
@@ -23,7 +23,7 @@ use Rattle.search_form.specs.Rules.{Laid, lay_entry, lay, one_by_one, ruled, rul
 use Rattle.search_form.specs.Statements.{RulesRight}
 use Rattle.search_form.proofs.Cases.{cond_case}
 use Rattle.search_form.proofs.Spans.{Rising, rising, Begins, entry_begins, entry_count}
-use Rattle.search_form.proofs.Steps.{count, count_return, head_count}
+use Rattle.search_form.proofs.Steps.{count_return, head_count}
 use Rattle.search_form.proofs.Found.{tree_most, ends_more, ends_first}
 use Rattle.search_form.proofs.Right.{Answers, below_power}
 use Rattle.search_form.proofs.RuleCases.{hits}

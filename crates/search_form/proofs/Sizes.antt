@@ -9,7 +9,6 @@ use lib.Dec.{leb, ltb}
 use lib.ListN.{length, take, drop}
 use borrow.Author.Tests.{ltb-false, leb-true, leb-false, lt-ltb, le-ltb}
 use Rattle.definitions.specs.declared.Instruction.{Instruction}
-use Rattle.definitions.specs.Emitted.{return}
 use Rattle.definitions.specs.SearchForm.{jump_reach, block_reach, block_spans, chain_spans, Destination, to_mismatch, to_match, to_rules, Span, Comparison, at_least, Tree, leaf, node, block, ends_by, up_to, link, chain, singles, few, lower, upper, middle, fits_block, block_if, grow, Form, Spot, away, near_place, near_return, plant_leaf, open_block, compare_first, plant}
 use Rattle.search_form.proofs.Cases.{cond_case, cond_cases}
 use Rattle.search_form.proofs.Grow.{is_single, few_most, few_not, halves, grown, Compares}

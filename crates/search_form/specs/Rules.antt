@@ -2,7 +2,7 @@
 -- equalities on the same arguments, are searched word by word: a word is loaded once, a tree of comparisons finds its value, and what is
 -- left of that value's rules is searched by the next word. The other rules are tried before, one by one. The tree and how it is planted
 -- are those of the search for the number, and so is what leads to a match: a value with no rule left.
-use Rattle.std.specs.Prelude.{ℕ, suc, ◌+◌, Bool, true, false, cond, ◌&&◌, List, [], ◌∷◌, ◌++◌, eqb, leb, ltb, length}
+use Rattle.std.specs.Prelude.{ℕ, suc, Bool, true, false, cond, ◌&&◌, List, [], ◌∷◌, ◌++◌, eqb, leb, ltb, length}
 use Rattle.definitions.specs.declared.Operator.{Operator}
 use Rattle.definitions.specs.declared.Operator.TheVariants.{Eq, Ge, Gt, Le, Lt, MaskedEq, Ne}
 use Rattle.definitions.specs.declared.Width.{Width}

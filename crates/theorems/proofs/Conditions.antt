@@ -1,9 +1,8 @@
 -- A condition's code goes on behind itself where the condition holds, and f instructions further where it does not.
 use mathlib.Core.Path.{◌≡◌, refl}
 use mathlib.Core.Bool.{Bool, true, false, cond, not, ◌&&◌, ◌||◌}
-use mathlib.Core.List.{List, [], ◌∷◌, ◌++◌}
-use Prim.Native.Nat.{ℕ, suc, ◌+◌, ◌≤◌}
-use lib.Dec.{eqb, leb, ltb}
+use mathlib.Core.List.{List, ◌++◌}
+use Prim.Native.Nat.{ℕ, ◌≤◌}
 use lib.Bits.{and_mod}
 use Rattle.definitions.specs.declared.Instruction.{Instruction}
 use Rattle.definitions.specs.declared.Operator.{Operator}
@@ -11,7 +10,7 @@ use Rattle.definitions.specs.declared.Operator.TheVariants.{Eq, Ge, Gt, Le, Lt, 
 use Rattle.definitions.specs.declared.Width.{Width}
 use Rattle.definitions.specs.declared.Width.TheVariants.{Dword, Qword}
 use Rattle.definitions.specs.declared.Condition.{Condition}
-use Rattle.definitions.specs.Word.{low, high}
+use Rattle.definitions.specs.Word.{low}
 use Rattle.definitions.specs.Machine.{Call, State, Result, run}
 use Rattle.definitions.specs.RuleSet.{argument, cut, test, holds}
 use Rattle.definitions.specs.Emitted.{high_tests, low_tests, high_part, low_part, condition_code}

@@ -3,7 +3,7 @@
 use mathlib.Core.Path.{◌≡◌, refl, sym, ◌∙◌}
 use mathlib.Core.Bool.{Bool, true, false, cond, not, ◌&&◌, ◌||◌}
 use mathlib.Core.List.{List, [], ◌∷◌, ◌++◌}
-use Prim.Native.Nat.{ℕ, zero, suc, ◌+◌, ◌≤◌, ◌<◌}
+use Prim.Native.Nat.{ℕ, suc, ◌+◌, ◌≤◌, ◌<◌}
 use native.Mathlib.Nat.{add-zero, zero-add}
 use native.Mathlib.Numerals.{add-one}
 use native.Mathlib.Omega.{arith}
@@ -14,7 +14,7 @@ use Rattle.definitions.specs.declared.Condition.{Condition}
 use Rattle.definitions.specs.declared.Fault.{Fault}
 use Rattle.definitions.specs.RuleSet.{Rule, Entry, RuleSet, one_of}
 use Rattle.definitions.specs.Format.{Each}
-use Rattle.definitions.specs.Answer.{index_taken, fits_width, has_conditions, fault, nowhere, placeless, no_fault, unless, faults_of, condition_faults, count_faults, rule_faults, entries_faults, set_faults, lesser, least_of, all, ascending, indices_taken}
+use Rattle.definitions.specs.Answer.{index_taken, fits_width, has_conditions, fault, nowhere, placeless, no_fault, unless, faults_of, condition_faults, count_faults, rule_faults, entries_faults, set_faults, lesser, least_of, all, ascending}
 
 -- ---- the least
 

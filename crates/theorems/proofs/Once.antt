@@ -1,11 +1,11 @@
 -- ONCE: a run executes at most as many instructions as the filter has, and none of them twice. It holds of every filter.
 use mathlib.Core.Path.{◌≡◌}
 use mathlib.Core.List.{List, [], ◌∷◌}
-use Prim.Native.Nat.{ℕ, zero, suc, ◌+◌, ◌≤◌, ◌<◌}
+use Prim.Native.Nat.{ℕ, zero, suc, ◌+◌, ◌≤◌}
 use native.Mathlib.Omega.{arith}
 use lib.ListN.{length}
 use Rattle.definitions.specs.declared.Instruction.{Instruction}
-use Rattle.definitions.specs.Machine.{Call, State, Step, stop, next, step, visits, start, steps, Climbs}
+use Rattle.definitions.specs.Machine.{Call, State, Step, stop, next, step, visits, start, Climbs}
 use Rattle.theorems.specs.Statements.{Once}
 
 climbs_lower : (at n : ℕ) (ks : List ℕ) → Climbs (at + 1) n ks → Climbs at n ks

@@ -3,15 +3,15 @@ use mathlib.Core.Path.{◌≡◌, refl}
 use mathlib.Core.Bool.{Bool, true, false, cond}
 use mathlib.Core.List.{List, [], ◌∷◌}
 use mathlib.Core.Option.{Option, none, some}
-use Prim.Native.Nat.{ℕ, zero, suc, ◌+◌, ◌≤◌, ◌<◌}
+use Prim.Native.Nat.{ℕ, zero, suc, ◌+◌, ◌<◌}
 use native.Mathlib.Omega.{arith}
 use lib.Dec.{leb, ltb}
 use lib.ListN.{length}
 use borrow.Author.Tests.{ltb-true, leb-true}
 use Rattle.definitions.specs.declared.Instruction.{Instruction}
-use Rattle.definitions.specs.Machine.{Call, State, returns, stuck, Step, stop, next}
+use Rattle.definitions.specs.Machine.{Call, State, returns, Step, stop, next}
 use Rattle.definitions.specs.Machine.{Kind, ld_abs, ld_len, ld_imm, ld_mem, ldx_len, ldx_imm, ldx_mem, st, stx, tax, txa, neg, ja, ret_k, ret_a, unknown, alu, jump}
-use Rattle.definitions.specs.Machine.{fetch, words, kind_of, into_a, compute, test_holds, operand, step_as, step, run, runs, start}
+use Rattle.definitions.specs.Machine.{fetch, kind_of, into_a, compute, test_holds, operand, step_as, step, run, start}
 use Rattle.definitions.specs.Kernel.{taken_as, each_taken, effect_as, effect_of, is_return, ends_in_return, scratch_taken, no_word, every_word, accepts}
 use Rattle.theorems.specs.Statements.{Safe}
 use Rattle.theorems.proofs.Tests.{both_true}

@@ -5,7 +5,7 @@ use mathlib.Core.Bool.{Bool, true, false, cond, ◌&&◌, ◌||◌}
 use mathlib.Core.List.{List, [], ◌∷◌}
 use mathlib.Core.Option.{Option, none, some}
 use mathlib.Core.Logic.{◌⊎◌, inl, inr}
-use Prim.Native.Nat.{ℕ, zero, suc, ◌+◌, ◌-◌, ◌^◌, ◌≤◌, ◌<◌}
+use Prim.Native.Nat.{ℕ, zero, suc, ◌-◌, ◌^◌, ◌≤◌}
 use native.Mathlib.Omega.{arith}
 use lib.Dec.{eqb, leb, ltb}
 use lib.ListN.{length, get_or, set as store, length-set, get_or-eq_default}
@@ -15,7 +15,7 @@ use Rattle.definitions.specs.declared.Instruction.{Instruction}
 use Rattle.definitions.specs.Word.{low}
 use Rattle.definitions.specs.Machine.{Call, State, Result, returns, stuck, Step, stop, next, set_a, set_x, set_m}
 use Rattle.definitions.specs.Machine.{Kind, ld_abs, ld_len, ld_imm, ld_mem, ldx_len, ldx_imm, ldx_mem, st, stx, tax, txa, neg, ja, ret_k, ret_a, unknown, alu, jump}
-use Rattle.definitions.specs.Machine.{Source, by_k, by_x, fetch, kind_of, into_a, compute, test_holds, operand, step_as, step, run, runs, start}
+use Rattle.definitions.specs.Machine.{Source, by_k, by_x, fetch, kind_of, into_a, compute, test_holds, operand, step_as, step, run, start}
 use Rattle.definitions.specs.Kernel.{each_taken, Effect, plain, reads, writes, jumps, branches, leaves, effect_as, effect_of, ends_in_return}
 use Rattle.definitions.specs.Kernel.{Words, every_word, no_word, both, with_word, narrowed, scratch_next, scratch_taken, accepts}
 use Rattle.theorems.specs.Statements.{Scratch}

@@ -1,6 +1,6 @@
 -- What the proof of `taken` keeps of emitted code: each instruction is of a kind that touches no scratch word, goes to a place that
 -- there is, and fits into its eight bytes. Nothing here has to be believed; no promise names it.
-use Rattle.std.specs.Prelude.{ℕ, ◌+◌, ◌%◌, ◌^◌, ◌≤◌, ◌<◌, ◌≡◌, true, List, [], ◌∷◌, length}
+use Rattle.std.specs.Prelude.{ℕ, ◌%◌, ◌^◌, ◌<◌, ◌≡◌, true, List, [], ◌∷◌, length}
 use Rattle.definitions.specs.declared.Instruction.{Instruction}
 use Rattle.definitions.specs.Machine.{Kind, ld_abs, ld_len, ld_imm, ld_mem, ldx_len, ldx_imm, ldx_mem, st, stx, tax, txa, neg, ja, ret_k, ret_a, unknown, alu, jump, kind_of}
 use Rattle.definitions.specs.Kernel.{operand_taken}

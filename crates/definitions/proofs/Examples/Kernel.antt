@@ -8,7 +8,7 @@ use Rattle.definitions.specs.Word.{number_of, number_at}
 use Rattle.definitions.specs.Machine.{instruction_at, instructions_at, filter_of, codes, kind_in, kind_of}
 use Rattle.definitions.specs.Kernel.{constant_taken, operand_taken, taken_as, each_taken, effect_as, effect_of, is_return, ends_in_return, scratch_next, scratch_taken, accepts, accepts_bytes}
 use Rattle.definitions.specs.Answer.{all}
-use Rattle.definitions.specs.Emitted.{instruction, load, jump_by, if_equal, return}
+use Rattle.definitions.specs.Emitted.{load, jump_by, if_equal, return}
 use Rattle.definitions.proofs.Examples.Machine.{op}
 
 -- one instruction, and a return behind it
