@@ -18,7 +18,7 @@ def main():
     except build.Missing as missing:
         print(f"nothing measured: {missing}")
         return build.MISSING
-    subprocess.run(["rt", "staticlib", "callfilter"], cwd=build.ROOT, check=True, stdout=subprocess.DEVNULL, stderr=subprocess.DEVNULL)
+    subprocess.run([build.ROOT / "host" / "archive.sh"], check=True, stdout=subprocess.DEVNULL, stderr=subprocess.DEVNULL)
     TARGET.mkdir(parents=True, exist_ok=True)
     program = TARGET / "bench"
     build.rustc(

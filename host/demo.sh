@@ -9,8 +9,8 @@ done
 mkdir -p target/host
 
 echo "proving what the archive is made of; from nothing this takes some minutes" >&2
-rt staticlib callfilter 2>&1 | tee target/host/staticlib.log | sed -un 's/^rt: /  /p' >&2 ||
-    { tail -n 30 target/host/staticlib.log >&2; exit 1; }
+host/archive.sh 2>&1 | tee target/host/archive.log | sed -un 's/^rt: /  /p' >&2 ||
+    { tail -n 30 target/host/archive.log >&2; exit 1; }
 echo "building the host around it" >&2
 rustc --edition 2021 -O --crate-type rlib --crate-name callfilter host/rust/src/lib.rs \
     -L native=target/staticlib -l static=callfilter --out-dir target/host

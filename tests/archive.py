@@ -18,7 +18,7 @@ def command(*words):
 
 def build():
     """Always anew: it is quick, and an older archive must not be what is tested."""
-    command("rt", "staticlib", "callfilter")
+    command(ROOT / "host" / "archive.sh")
     return ARCHIVE
 
 

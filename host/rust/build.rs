@@ -1,4 +1,4 @@
-//! Finds libcallfilter.a: in the folder that CALLFILTER_LIB names, else where `rt staticlib callfilter` puts it.
+//! Finds libcallfilter.a: in the folder that CALLFILTER_LIB names, else where `host/archive.sh` puts it.
 
 use std::{env, path::PathBuf, process::exit};
 
@@ -14,7 +14,7 @@ fn main() {
     let archive = folder.join("libcallfilter.a");
     if !archive.is_file() {
         refuse(&format!(
-            "{} is not there: make it by `rt staticlib callfilter`, or say by CALLFILTER_LIB which folder it is in",
+            "{} is not there: make it by `host/archive.sh`, or say by CALLFILTER_LIB which folder it is in",
             archive.display()
         ));
     }

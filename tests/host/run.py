@@ -211,7 +211,7 @@ def cargo(tally, expected):
     status, said = run(*words, env=environment)
     tally.check("the demo by cargo", status == 0 and said == expected, said)
     status, said = run(*words, env={**environment, "CALLFILTER_LIB": str(HERE)})
-    tally.check("without the archive cargo says what to do", status != 0 and "make it by `rt staticlib callfilter`" in said, said)
+    tally.check("without the archive cargo says what to do", status != 0 and "make it by `host/archive.sh`" in said, said)
     status, said = run(*words, env={**environment, "CALLFILTER_LIB": "target/staticlib"})
     tally.check("a folder that is no whole path is refused with one that is", status != 0 and '"$PWD"/target/staticlib' in said, said)
     status, said = run(*words, env={**environment, "CALLFILTER_LIB": str(archive.ARCHIVE.parent)})

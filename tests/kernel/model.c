@@ -14,29 +14,29 @@
     ROW(CODES_MODULO, "codes: modulo by a constant is among them") \
     ROW(CODES_NEGATION, "codes: the negation is missing") \
     ROW(CODES_HALF, "codes: only the low byte of a code is looked at") \
-    ROW(TAKEN_UNALIGNED, "takenAs ldAbs: a load need not be aligned") \
-    ROW(TAKEN_BEHIND_CALL, "takenAs ldAbs: offset 64 is taken") \
-    ROW(TAKEN_JUMP_TO_END, "takenAs ja: a jump right behind the last instruction is taken") \
-    ROW(TAKEN_TRUE_OUT, "takenAs jump: jt is not looked at") \
-    ROW(TAKEN_FALSE_OUT, "takenAs jump: jf is not looked at") \
-    ROW(TAKEN_SCRATCH, "takenAs st: scratch word 16 is taken") \
-    ROW(CONSTANT_DIVISION, "constantTaken: a division by 0 is taken") \
-    ROW(CONSTANT_SHIFT, "constantTaken: a shift by 32 is taken") \
-    ROW(NO_RETURN, "endsInReturn: the last instruction is not looked at") \
-    ROW(SCRATCH_ONE_WAY, "scratchNext: a branch narrows only where it goes if true") \
-    ROW(SCRATCH_RETURN, "scratchNext: behind a return every word is written") \
+    ROW(TAKEN_UNALIGNED, "taken_as ld_abs: a load need not be aligned") \
+    ROW(TAKEN_BEHIND_CALL, "taken_as ld_abs: offset 64 is taken") \
+    ROW(TAKEN_JUMP_TO_END, "taken_as ja: a jump right behind the last instruction is taken") \
+    ROW(TAKEN_TRUE_OUT, "taken_as jump: jt is not looked at") \
+    ROW(TAKEN_FALSE_OUT, "taken_as jump: jf is not looked at") \
+    ROW(TAKEN_SCRATCH, "taken_as st: scratch word 16 is taken") \
+    ROW(CONSTANT_DIVISION, "constant_taken: a division by 0 is taken") \
+    ROW(CONSTANT_SHIFT, "constant_taken: a shift by 32 is taken") \
+    ROW(NO_RETURN, "ends_in_return: the last instruction is not looked at") \
+    ROW(SCRATCH_ONE_WAY, "scratch_next: a branch narrows only where it goes if true") \
+    ROW(SCRATCH_RETURN, "scratch_next: behind a return every word is written") \
     ROW(DIVISION_GOES_ON, "compute: a division by 0 gives 0 and the run goes on") \
     ROW(SHIFT_LEFT_FAR, "compute: a left shift by 32 or more gives 0") \
     ROW(SHIFT_RIGHT_FAR, "compute: a right shift by 32 or more gives 0") \
     ROW(SHIFT_SIGNED, "compute: a right shift keeps the sign") \
     ROW(SUBTRACTION_TURNED, "compute: a subtraction the other way round") \
-    ROW(GREATER_OR_EQUAL, "testHolds: gt is ge") \
-    ROW(COMPARED_SIGNED, "testHolds: ge compares signed numbers") \
-    ROW(SET_INVERTED, "testHolds: set is inverted") \
-    ROW(LENGTH_ZERO, "stepAs ldLen: the length is 0") \
-    ROW(NEGATION_BITWISE, "stepAs neg: every bit is turned, and no more") \
-    ROW(STORE_A, "stepAs stx: the accumulator is stored") \
-    ROW(JUMP_ONE_SHORT, "stepAs ja: distances above 0 are one shorter") \
+    ROW(GREATER_OR_EQUAL, "test_holds: gt is ge") \
+    ROW(COMPARED_SIGNED, "test_holds: ge compares signed numbers") \
+    ROW(SET_INVERTED, "test_holds: set is inverted") \
+    ROW(LENGTH_ZERO, "step_as ld_len: the length is 0") \
+    ROW(NEGATION_BITWISE, "step_as neg: every bit is turned, and no more") \
+    ROW(STORE_A, "step_as stx: the accumulator is stored") \
+    ROW(JUMP_ONE_SHORT, "step_as ja: distances above 0 are one shorter") \
     ROW(HALVES_SWAPPED, "words: an argument's high word comes first") \
     ROW(POINTER_ZERO, "words: the instruction pointer is 0") \
     ROW(START_LENGTH, "start: the index register starts as 64")

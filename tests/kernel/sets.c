@@ -34,14 +34,14 @@ static const rule_set *set_of(const question *q) { return &sets[(q - first_asked
     ROW(NEXT_ARGUMENT, "argument: an index is one too high") \
     ROW(ACTIONS_SWAPPED, "listed: a match gives the mismatch action") \
     ROW(NUMBER_CUT, "listed: of a call's number 16 bits are compared") \
-    ROW(ARCHITECTURES_SWAPPED, "architectureWord: the words are swapped") \
+    ROW(ARCHITECTURES_SWAPPED, "architecture_word: the words are swapped") \
     ROW(ARCHITECTURE_IGNORED, "meaning: a call's architecture is not compared") \
     ROW(NATIVE_IGNORED, "meaning: a second table is served, whatever the set says") \
     ROW(NATIVE_ALWAYS, "meaning: a second table is never served") \
     ROW(SECOND_TABLE_LISTED, "meaning: of a second table the listed numbers are served") \
-    ROW(SECOND_TABLE_ABOVE, "inSecondTable: every number from 2^30 on is of the table") \
-    ROW(SECOND_TABLE_BELOW, "inSecondTable: no number from 2^31 on is of the table") \
-    ROW(CANCELLED_KILLED, "inSecondTable: the number of a cancelled call is of the table")
+    ROW(SECOND_TABLE_ABOVE, "in_second_table: every number from 2^30 on is of the table") \
+    ROW(SECOND_TABLE_BELOW, "in_second_table: no number from 2^31 on is of the table") \
+    ROW(CANCELLED_KILLED, "in_second_table: the number of a cancelled call is of the table")
 
 #define ROW_NAME(name, text) name,
 enum { LIST(ROW_NAME) MEANINGS };

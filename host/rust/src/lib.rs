@@ -25,7 +25,7 @@
 //! # Ok::<(), callfilter::Error>(())
 //! ```
 //!
-//! The archive is made by `rt staticlib callfilter`, and found where that puts it or in the folder whose whole path the environment
+//! The archive is made by `host/archive.sh`, and found where that puts it or in the folder whose whole path the environment
 //! variable `CALLFILTER_LIB` is. It links only into programs for x86-64. A host for another machine has this crate as a build dependency,
 //! and embeds the bytes of a [`Filter`] that its build script makes.
 //!
