@@ -1,21 +1,21 @@
 -- Slots by places. Assumes nothing.
 use mathlib.Core.Path.{◌≡◌, refl, ap, sym, ◌∙◌}
-use mathlib.Core.Bool.{Bool, true, false, cond, not, ◌&&◌, ◌||◌}
+use mathlib.Core.Bool.{Bool, true, false, cond, ◌&&◌}
 use mathlib.Core.List.{List, [], ◌∷◌, ◌++◌, append_assoc, append-nil}
 use mathlib.Core.Option.{Option, none, some}
 use Prim.Native.Nat.{ℕ, zero, suc, ◌+◌, ◌-◌, ◌*◌, ◌/◌, ◌≤◌, ◌<◌}
 use native.Mathlib.Omega.{arith}
 use native.Mathlib.Numerals.{add-one}
-use lib.Dec.{eqb, leb, ltb}
-use lib.ListN.{length, take, drop, get_or, replicate, length-take, length-drop, length-append, take-append-drop, drop_of_length-le, replicate-append-replicate}
-use lib.Seq.{drop-cons, get_or-drop, drop-drop, take-append-add, take_all, take_at, take-nil}
-use borrow.Author.Tests.{leb-true, leb-false, eqb-true, eqb-false, le-leb, lt-leb, eq-eqb, ne_eqb}
+use lib.Dec.{eqb, leb}
+use lib.ListN.{length, take, drop, get_or, replicate, length-take, length-drop, take-append-drop, drop_of_length-le, replicate-append-replicate}
+use lib.Seq.{drop-cons, drop-drop, take-append-add, take_at, take-nil}
+use borrow.Author.Tests.{leb-true, eqb-true, eqb-false, le-leb, eq-eqb, ne_eqb}
 use Rattle.definitions.specs.Word.{number_at}
 use Rattle.definitions.specs.Json.{all}
 use Rattle.definitions.specs.JsonForm.{same}
-use Rattle.definitions.specs.CallNames.{Slot, before, number_for, is_zero, until_zero, name_in, slot_in, slots_in, is_named, bad_at, first_bad, slot_count}
-use Rattle.json_theorems.proofs.Tests.{false_not_true, both_true}
-use Rattle.call_names.specs.Slots.{Good, compared, Kept, Prior, prior_name, Answers, Called'}
+use Rattle.definitions.specs.CallNames.{before, number_for, is_zero, until_zero, name_in, slot_in, slots_in, is_named, bad_at, first_bad, slot_count}
+use Rattle.json_theorems.proofs.Tests.{both_true}
+use Rattle.call_names.specs.Slots.{Good, compared, Kept, Prior, prior_name, Answers}
 use Rattle.json_theorems.proofs.Values.{same_true, same_self}
 use Rattle.call_names.specs.declared.Called.{Called}
 use Rattle.call_names.proofs.Ranks.{Before, before_is, before_trans, not_same, not_same_behind, is_byte, is_before, Ranked, ranked_less, ranked_same, ranked_greater, rank, is_zero_lem}

@@ -1,24 +1,23 @@
 -- Bytes are a table exactly if no slot is bad, and then there is one list of slots that they spell: the one by places. Assumes nothing.
 use mathlib.Core.Path.{◌≡◌, refl, ap, sym, ◌∙◌}
-use mathlib.Core.Bool.{Bool, true, false, cond, not, ◌&&◌, ◌||◌}
-use mathlib.Core.List.{List, [], ◌∷◌, ◌++◌, append_assoc, append-nil}
-use mathlib.Core.Option.{Option, none, some}
-use Prim.Native.Nat.{ℕ, zero, suc, ◌+◌, ◌-◌, ◌*◌, ◌/◌, ◌^◌, ◌≤◌, ◌<◌}
+use mathlib.Core.Bool.{Bool, true, false, cond, ◌&&◌}
+use mathlib.Core.List.{List, [], ◌∷◌, ◌++◌, append_assoc}
+use Prim.Native.Nat.{ℕ, zero, suc, ◌+◌, ◌-◌, ◌*◌, ◌≤◌, ◌<◌}
 use native.Mathlib.Omega.{arith}
 use lib.Dec.{eqb, leb, ltb}
-use lib.ListN.{length, take, drop, get_or, replicate, length-take, length-drop, length-append, length-replicate, take-append-drop}
-use lib.Seq.{drop-drop, take_at, drop_at, get_or-drop, get_or-take}
-use borrow.Author.Tests.{leb-true, leb-false, eqb-true, eqb-false, ltb-true, lt-ltb, le-leb, lt-leb, eq-eqb, ne_eqb}
+use lib.ListN.{length, take, drop, replicate, length-drop, length-append, length-replicate}
+use lib.Seq.{take_at, drop_at, get_or-drop}
+use borrow.Author.Tests.{leb-true, eqb-false, ltb-true, lt-ltb, le-leb, ne_eqb}
 use Rattle.definitions.specs.Word.{AreBytes, bytes_of, number_at}
 use Rattle.definitions.specs.Format.{joined}
 use Rattle.theorems.proofs.Words.{length_bytes, number_here, number_front, number_drop, number_at_small}
 use Rattle.definitions.specs.Json.{all}
-use Rattle.definitions.specs.CallNames.{Slot, encode_slot, before, in_order, slot_taken, slots_taken, TableOf, number_for, is_zero, until_zero, name_in, slot_in, slots_in, is_named, bad_at, first_bad, slot_count}
-use Rattle.json_theorems.proofs.Tests.{false_not_true, both_true}
+use Rattle.definitions.specs.CallNames.{Slot, encode_slot, before, in_order, slot_taken, slots_taken, TableOf, is_zero, until_zero, name_in, slot_in, slots_in, is_named, bad_at, slot_count}
+use Rattle.json_theorems.proofs.Tests.{both_true}
 use Rattle.json_theorems.proofs.FromJson.{Tables}
 use Rattle.call_names.specs.Slots.{Good}
-use Rattle.call_names.proofs.Ranks.{Before, shorter, before_is, is_before, is_byte}
-use Rattle.call_names.proofs.Search.{AreGood, FirstGood, first_good, spells, name_short, whole, named_law, start_law}
+use Rattle.call_names.proofs.Ranks.{Before, shorter, before_is, is_before}
+use Rattle.call_names.proofs.Search.{AreGood, first_good, spells, name_short, whole, named_law}
 
 abbrev ok_byte : ℕ → Bool
 ok_byte b = leb 1 b && leb b 255

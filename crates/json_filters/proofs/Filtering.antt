@@ -1,9 +1,9 @@
 -- A filter whose fields are gathered: what is missing, what is equal, and what is written of it.
 use mathlib.Core.Path.{◌≡◌, refl, ap, sym, ◌∙◌, subst}
-use mathlib.Core.Bool.{Bool, true, false, cond, not, ◌&&◌}
+use mathlib.Core.Bool.{Bool, true, false, not, ◌&&◌}
 use mathlib.Core.List.{List, [], ◌∷◌, ◌++◌}
 use mathlib.Core.Option.{Option, none, some}
-use Prim.Native.Nat.{ℕ, ◌+◌, ◌-◌, ◌*◌, ◌^◌, ◌≤◌, ◌<◌}
+use Prim.Native.Nat.{ℕ, ◌+◌, ◌-◌, ◌≤◌}
 use native.Mathlib.Omega.{arith}
 use lib.Dec.{eqb}
 use lib.ListN.{length, take, drop, length-drop}
@@ -11,22 +11,21 @@ use lib.Seq.{take-take}
 use borrow.Author.Tests.{eq-eqb, ne_eqb}
 use Rattle.definitions.specs.Word.{AreBytes}
 use Rattle.definitions.specs.RuleSet.{Architecture, Rule, Entry, RuleSet}
-use Rattle.definitions.specs.Format.{then, check, joined, Each, encode_entry, encode, architecture_of, native_of}
+use Rattle.definitions.specs.Format.{then, check, Each, encode, architecture_of, native_of}
 use Rattle.definitions.specs.CallNames.{Slot, slots_taken, number_for}
 use Rattle.definitions.specs.JsonForm.{Line, Filter, filter_of}
-use Rattle.definitions.specs.JsonReader.{Got, got, stop, follow}
+use Rattle.definitions.specs.JsonReader.{Got, got, follow}
 use Rattle.definitions.specs.FormReader.{not_of_form, equal_actions, Typed, value_of, FilterPart, the_action, the_lines, as_action, as_lines, filter_from, filter_there, keyed_there, judged, answered, asked, ending, is_some, judges_of}
 use Rattle.definitions.specs.Collected.{rules_of_args, numbered, collected, now, set_with, taken, set_of}
 use Rattle.theorems.proofs.Names.{head_forth}
 use Rattle.json_theorems.proofs.Tests.{false_not_true, both_true, then_some}
 use Rattle.json_theorems.proofs.Faith.{some_same}
-use Rattle.json_theorems.proofs.Objects.{ok_filter, only, filter_by, filter_faithful, filter_only}
+use Rattle.json_theorems.proofs.Objects.{ok_filter, only, filter_faithful, filter_only}
 use Rattle.json_theorems.proofs.Sets.{filter_taken}
 use Rattle.json_theorems.proofs.Sizes.{filter_size_lem, length_set}
 use Rattle.json_theorems.proofs.Ranges.{number_range}
 use Rattle.json_scan.specs.Scan.{Tells}
-use Rattle.json_scan.proofs.Telling.{Came, came, handed_on}
-use Rattle.call_names.specs.Slots.{Good}
+use Rattle.json_scan.proofs.Telling.{Came, handed_on}
 use Rattle.call_names.proofs.Tables.{good_table}
 use Rattle.collect.specs.Raw.{OfLine, Raw}
 use Rattle.collect.proofs.Sorting.{collected_shorter}

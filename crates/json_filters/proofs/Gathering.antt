@@ -3,19 +3,18 @@ use mathlib.Core.Path.{◌≡◌, refl, ap, sym, ◌∙◌}
 use mathlib.Core.Bool.{Bool, true, false, cond, ◌||◌}
 use mathlib.Core.List.{List, [], ◌∷◌, ◌++◌, append-nil}
 use mathlib.Core.Option.{Option, none, some}
-use Prim.Native.Nat.{ℕ, zero, suc, ◌+◌, ◌-◌, ◌≤◌, ◌<◌}
+use Prim.Native.Nat.{ℕ, zero, suc, ◌+◌, ◌-◌, ◌≤◌}
 use native.Mathlib.Omega.{arith}
 use lib.Dec.{eqb}
 use lib.ListN.{length, take, drop, length-append, length-drop, drop_of_length-le}
 use lib.Seq.{take_at, drop_at, length-take-le}
-use borrow.Author.Tests.{eqb-true, eqb-false, eq-eqb, ne_eqb}
 use Rattle.definitions.specs.Json.{quote}
-use Rattle.definitions.specs.JsonForm.{same, field_of, filter_keys, Line}
+use Rattle.definitions.specs.JsonForm.{field_of, filter_keys, Line}
 use Rattle.definitions.specs.Format.{is_there, joined, encode_entry}
 use Rattle.definitions.specs.JsonReader.{Got, got, stop, follow, not_json, first, string_at, placed, bad_character}
 use Rattle.definitions.specs.FormReader.{Typed, typed, has_typed, value_of, FilterPart, the_action, the_lines, or_stop, action_there, line_there, list_there, judges_of}
 use Rattle.definitions.specs.CallNames.{Slot}
-use Rattle.json_theorems.proofs.Tests.{false_not_true, none_not_some}
+use Rattle.json_theorems.proofs.Tests.{false_not_true}
 use Rattle.json_theorems.proofs.Faith.{stopped}
 use Rattle.json_theorems.proofs.Form.{keys_below_lem}
 use Rattle.json_theorems.specs.Turns.{field_there}

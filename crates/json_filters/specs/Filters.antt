@@ -1,5 +1,5 @@
 -- Filters that are written as sets while they are read. Needs no belief.
-use Rattle.std.specs.Prelude.{ℕ, ◌+◌, ◌-◌, ◌*◌, ◌≤◌, ◌≡◌, Bool, true, false, cond, eqb, List, [], ◌∷◌, ◌++◌, length, take, drop}
+use Rattle.std.specs.Prelude.{ℕ, ◌+◌, ◌-◌, ◌*◌, ◌≤◌, ◌≡◌, Bool, true, false, cond, eqb, List, ◌∷◌, ◌++◌, length, take, drop}
 use Rattle.std.proofs.Math.Option.{Option, none, some}
 use Rattle.definitions.specs.Word.{bytes_of}
 use Rattle.definitions.specs.RuleSet.{Architecture, Entry, RuleSet}

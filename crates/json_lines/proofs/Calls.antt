@@ -14,7 +14,7 @@ use Rattle.definitions.specs.JsonReader.{Got, got, stop, follow, first, string_a
 use Rattle.definitions.specs.FormReader.{wrong, string_there, judged, answered, asked, is_some, unknown_call}
 use Rattle.definitions.specs.CallNames.{Slot, number_for, slot_count, slots_in}
 use Rattle.call_names.specs.declared.Called.{Called}
-use Rattle.call_names.specs.Slots.{Kept, Called', Answers}
+use Rattle.call_names.specs.Slots.{Called', Answers}
 use Rattle.json_theorems.proofs.Tests.{false_not_true}
 use Rattle.json_theorems.proofs.Sizes.{string_size}
 use Rattle.json_scan.specs.Scan.{At, Tells}

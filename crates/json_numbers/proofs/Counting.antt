@@ -1,25 +1,25 @@
 -- Numbers by places. Assumes nothing.
 use mathlib.Core.Path.{◌≡◌, refl, ap, sym, ◌∙◌}
-use mathlib.Core.Bool.{Bool, true, false, cond, not, ◌&&◌, ◌||◌}
-use mathlib.Core.List.{List, [], ◌∷◌, ◌++◌}
+use mathlib.Core.Bool.{Bool, true, false, ◌&&◌, ◌||◌}
+use mathlib.Core.List.{List, [], ◌∷◌}
 use mathlib.Core.Option.{Option, none, some}
-use Prim.Native.Nat.{ℕ, zero, suc, ◌+◌, ◌-◌, ◌*◌, ◌≤◌, ◌<◌}
+use Prim.Native.Nat.{ℕ, suc, ◌+◌, ◌-◌, ◌*◌, ◌≤◌, ◌<◌}
 use native.Mathlib.Omega.{arith}
 use native.Mathlib.Numerals.{add-one}
 use native.Mathlib.Nat.{add-zero}
 use lib.Dec.{eqb, leb}
-use lib.ListN.{length, take, drop, get_or, length-take, length-drop, drop_of_length-le, get_or-eq_default}
+use lib.ListN.{length, take, drop, get_or, drop_of_length-le, get_or-eq_default}
 use lib.Seq.{drop-cons, get_or-drop, drop-drop}
-use borrow.Author.Tests.{leb-true, leb-false, eqb-true, eqb-false, le-leb, lt-leb, eq-eqb, ne_eqb}
+use borrow.Author.Tests.{leb-true, leb-false, eqb-true, le-leb, lt-leb, eq-eqb, ne_eqb}
 use Rattle.definitions.specs.Format.{then, check}
 use Rattle.definitions.specs.Json.{all, is_digit, number}
 use Rattle.definitions.specs.JsonForm.{decimal, natural}
 use Rattle.definitions.specs.JsonReader.{first, digit_count, sign_count, whole_count, fraction_count, exponent_sign, exponent_count, number_count}
 use Rattle.json_scan.specs.declared.Place.{Place}
-use Rattle.json_theorems.proofs.Tests.{false_not_true, both_true}
+use Rattle.json_theorems.proofs.Tests.{false_not_true}
 use Rattle.json_numbers.specs.declared.Part.{Part}
 use Rattle.json_numbers.specs.declared.Natural.{Natural}
-use Rattle.json_numbers.specs.Counts.{Went, stuck_exponent, stuck_fraction, stuck_whole, stuck_at, Ended, natural_from, Is}
+use Rattle.json_numbers.specs.Counts.{Went, stuck_exponent, stuck_at, Ended, natural_from, Is}
 
 pub first_at : (text : List ℕ) (at : ℕ) → first (drop at text) ≡ get_or text at 0
 first_at text at = get_or-drop at text 0 0 ∙ rw add-zero

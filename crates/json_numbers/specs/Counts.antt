@@ -1,10 +1,10 @@
 -- What the scanners of numbers say by places: they agree with the reader. Needs no belief.
-use Rattle.std.specs.Prelude.{ℕ, zero, suc, ◌+◌, ◌-◌, ◌≤◌, ◌≡◌, Bool, true, false, cond, ◌&&◌, ◌||◌, List, [], ◌∷◌, eqb, leb, length, drop, take}
+use Rattle.std.specs.Prelude.{ℕ, suc, ◌+◌, ◌≡◌, true, false, ◌&&◌, List, leb, drop}
 use Rattle.std.proofs.Math.Option.{Option, none, some}
 use Rattle.definitions.specs.Format.{check}
-use Rattle.definitions.specs.Json.{all, is_digit, Json, number}
-use Rattle.definitions.specs.JsonForm.{decimal, natural}
-use Rattle.definitions.specs.JsonReader.{first, digit_count, sign_count, whole_count, fraction_count, exponent_sign, exponent_count, number_count}
+use Rattle.definitions.specs.Json.{all, is_digit}
+use Rattle.definitions.specs.JsonForm.{decimal}
+use Rattle.definitions.specs.JsonReader.{sign_count, whole_count, fraction_count, exponent_sign, exponent_count}
 use Rattle.json_scan.specs.declared.Place.{Place}
 use Rattle.json_numbers.specs.declared.Part.{Part}
 use Rattle.json_numbers.specs.declared.Natural.{Natural}

@@ -1,11 +1,10 @@
 -- Strings kept as numbers: the first 16 bytes, filled up with zeros, as two numbers of eight bytes, lowest byte first, and how many bytes
 -- there are. By them a word is compared at once. Needs no belief: `Words` in proofs says that they tell words apart.
-use Rattle.std.specs.Prelude.{ℕ, zero, suc, ◌≡◌, Bool, true, cond, ◌&&◌, List, [], ◌∷◌, ◌++◌, eqb, leb, length, take, drop, replicate}
+use Rattle.std.specs.Prelude.{ℕ, zero, suc, ◌≡◌, Bool, true, cond, ◌&&◌, List, [], ◌∷◌, ◌++◌, eqb, leb, length, take, replicate}
 use Rattle.std.proofs.Math.Option.{Option, none, some}
 use Rattle.definitions.specs.Word.{number_at, AreBytes}
-use Rattle.definitions.specs.Json.{ascii, all, quote}
+use Rattle.definitions.specs.Json.{ascii, all}
 use Rattle.definitions.specs.JsonForm.{Key}
-use Rattle.definitions.specs.JsonReader.{Got, stop, not_json, first, string_at, placed, bad_character}
 use Rattle.json_parts.specs.declared.Word.{Word}
 
 -- the first 16 bytes, filled up with zeros

@@ -11,7 +11,7 @@ use Rattle.definitions.specs.JsonReader.{Got, got, stop, follow, blanks}
 use Rattle.definitions.specs.FormReader.{given_twice, Typed, typed, has_typed}
 use Rattle.json_theorems.specs.Turns.{field_there, colon_there, more_there, Turned, turned, turned_there, field_turn}
 use Rattle.json_scan.specs.Scan.{At, Either, Tells}
-use Rattle.json_scan.proofs.Telling.{Came, came, handed_on}
+use Rattle.json_scan.proofs.Telling.{came, handed_on}
 
 -- the blanks in front of a key are skipped
 pub record Skipped (text : List ℕ) (at from : ℕ) : Type 0 where

@@ -1,23 +1,23 @@
 -- What the scanners of the code need: the reader by places of the text, one return of the code after the other. Assumes nothing.
 use mathlib.Core.Path.{◌≡◌, refl, ap, sym, ◌∙◌}
 use mathlib.Core.Bool.{Bool, true, false, cond, not, ◌&&◌, ◌||◌}
-use mathlib.Core.List.{List, [], ◌∷◌, ◌++◌, append_assoc, append-nil}
+use mathlib.Core.List.{List, [], ◌∷◌, ◌++◌, append_assoc}
 use mathlib.Core.Option.{Option, none, some}
 use Prim.Native.Nat.{ℕ, zero, suc, ◌+◌, ◌-◌, ◌*◌, ◌≤◌, ◌<◌, min}
 use native.Mathlib.Nat.{add-zero}
 use native.Mathlib.Numerals.{add-one}
 use native.Mathlib.Omega.{arith}
-use lib.Dec.{eqb, leb}
-use lib.ListN.{length, take, drop, get_or, length-append, length-take, length-drop, take-append-drop, get_or-eq_default, drop_of_length-le}
+use lib.Dec.{eqb}
+use lib.ListN.{length, take, drop, get_or, length-take, length-drop, take-append-drop, get_or-eq_default, drop_of_length-le}
 use lib.Seq.{drop-cons, get_or-drop, take_all, drop-drop}
-use borrow.Author.Tests.{leb-true, leb-false, eqb-true, eqb-false, not-true, le-leb, lt-leb, eq-eqb, ne_eqb}
+use borrow.Author.Tests.{le-leb, lt-leb, eq-eqb, ne_eqb}
 use Rattle.definitions.specs.Format.{then, check}
 use Rattle.definitions.specs.Json.{within, quote, backslash, is_blank, is_unescaped, short_escape, hex_digit, digit, hex4, is_high, is_low, utf8, pair_of}
-use Rattle.definitions.specs.JsonReader.{Got, got, stop, not_json, follow, first, blanks, Piece, piece, byte_count, plain_piece, hex_at, pair_piece, unit_or, escape_piece, character, on_piece, characters, string_at}
+use Rattle.definitions.specs.JsonReader.{Got, got, stop, not_json, follow, first, blanks, Piece, piece, byte_count, plain_piece, hex_at, pair_piece, unit_or, escape_piece, character, characters, string_at}
 use Rattle.json_scan.specs.declared.Place.{Place}
 use Rattle.json_scan.specs.Scan.{or_else, unit_at, used_of, is_short, At, Stands}
-use Rattle.json_theorems.proofs.Tests.{false_not_true, none_not_some, both_true, one_true, check_some, then_some, within_le, take_cons}
-use Rattle.json_theorems.proofs.Strings.{Lead, unescaped_lead, digit_none, hex_long, next, character_sound, character_reads, character_long, no_character}
+use Rattle.json_theorems.proofs.Tests.{none_not_some, within_le}
+use Rattle.json_theorems.proofs.Strings.{unescaped_lead, digit_none, next, character_sound, character_reads, character_long, no_character}
 
 -- ---- blanks
 

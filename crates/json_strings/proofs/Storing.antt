@@ -1,21 +1,21 @@
 -- Strings stored as they are decoded. Assumes nothing.
 use mathlib.Core.Path.{◌≡◌, refl, ap, sym, ◌∙◌}
-use mathlib.Core.Bool.{Bool, true, false, cond, not, ◌&&◌, ◌||◌}
-use mathlib.Core.List.{List, [], ◌∷◌, ◌++◌, append_assoc, append-nil}
+use mathlib.Core.Bool.{Bool, true, false, cond, not, ◌&&◌}
+use mathlib.Core.List.{List, [], ◌∷◌, ◌++◌, append-nil}
 use mathlib.Core.Option.{Option, none, some}
 use Prim.Native.Nat.{ℕ, zero, suc, ◌+◌, ◌-◌, ◌*◌, ◌/◌, ◌%◌, ◌≤◌, ◌<◌}
 use native.Mathlib.Omega.{arith}
 use native.Mathlib.Numerals.{add-one, add-two, add-three}
 use native.Mathlib.Nat.{add-zero}
 use lib.Dec.{eqb, leb}
-use lib.ListN.{length, take, drop, get_or, set, replicate, length-append, length-take, length-drop, length-set, drop_of_length-le}
-use lib.Seq.{sets, length-sets, set_out, drop-cons, get_or-drop, drop-drop, take-suc, drop-nil, take-length}
-use borrow.Author.Tests.{leb-true, leb-false, eqb-true, eqb-false, le-leb, lt-leb, eq-eqb, ne_eqb}
+use lib.ListN.{length, take, drop, get_or, set, replicate, length-append, length-take, length-drop}
+use lib.Seq.{sets, length-sets, set_out, get_or-drop, take-suc, take-length}
+use borrow.Author.Tests.{eqb-true, eqb-false, le-leb, lt-leb}
 use Rattle.definitions.specs.Format.{then, check}
-use Rattle.definitions.specs.Json.{within, quote, backslash, is_unescaped, short_escape, hex4, is_high, is_low, utf8, pair_of, Character, unescaped, escaped, unit, pair}
-use Rattle.definitions.specs.JsonReader.{Got, got, stop, not_json, follow, first, Piece, piece, byte_count, plain_piece, hex_at, pair_piece, unit_or, escape_piece, character, on_piece, characters, string_at}
-use Rattle.json_scan.specs.Scan.{or_else, unit_at, used_of, At}
-use Rattle.json_theorems.proofs.Tests.{false_not_true, none_not_some, both_true, check_some, then_some, within_le}
+use Rattle.definitions.specs.Json.{quote, backslash, is_unescaped, short_escape, is_high, is_low, utf8, pair_of, Character, unescaped, escaped, unit, pair}
+use Rattle.definitions.specs.JsonReader.{Got, got, stop, not_json, follow, first, Piece, piece, byte_count, plain_piece, hex_at, pair_piece, unit_or, escape_piece, character, characters, string_at}
+use Rattle.json_scan.specs.Scan.{or_else, unit_at, used_of}
+use Rattle.json_theorems.proofs.Tests.{check_some, then_some, within_le}
 use Rattle.json_theorems.proofs.Strings.{character_sound}
 use Rattle.json_scan.proofs.Scanning.{hex_at_lem, unit_small, used_fits, follow_id, after_quote, after_end, after_none, after_some, no_piece}
 use Rattle.json_strings.specs.declared.Decoded.{Decoded}

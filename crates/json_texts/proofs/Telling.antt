@@ -1,9 +1,9 @@
 -- How what is told of one part goes on to what is told of the next. Assumes nothing.
 use mathlib.Core.Path.{◌≡◌, refl, subst, sym, ◌∙◌}
 use mathlib.Core.List.{List}
-use Prim.Native.Nat.{ℕ, ◌≤◌, ◌<◌}
+use Prim.Native.Nat.{ℕ, ◌<◌}
 use native.Mathlib.Omega.{arith}
-use lib.ListN.{length, drop}
+use lib.ListN.{drop}
 use Rattle.definitions.specs.JsonReader.{Got, got, stop, follow}
 use Rattle.json_scan.specs.Scan.{Either, Tells}
 use Rattle.json_scan.proofs.Telling.{told_earlier}

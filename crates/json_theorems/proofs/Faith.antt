@@ -1,25 +1,25 @@
 -- The parts of the front end's reader are faithful: strings, numbers, what is made of them, objects and arrays of faithful parts. Assumes nothing.
 use mathlib.Core.Path.{◌≡◌, refl, ap, sym, ◌∙◌}
-use mathlib.Core.Bool.{Bool, true, false, cond, not, ◌&&◌, ◌||◌}
-use mathlib.Core.List.{List, [], ◌∷◌, ◌++◌, append_assoc, append-nil}
+use mathlib.Core.Bool.{Bool, true, false, cond, not, ◌||◌}
+use mathlib.Core.List.{List, [], ◌∷◌, ◌++◌}
 use mathlib.Core.Option.{Option, none, some}
-use Prim.Native.Nat.{ℕ, zero, suc, ◌+◌, ◌≤◌, ◌<◌}
+use Prim.Native.Nat.{ℕ, ◌≤◌}
 use native.Mathlib.Omega.{arith}
-use lib.Dec.{eqb, leb}
-use lib.ListN.{length, take, drop, get_or, length-append, take-append-drop}
+use lib.Dec.{eqb}
+use lib.ListN.{length, take, drop, take-append-drop}
 use lib.Seq.{take-append_seam, drop-append_seam}
-use borrow.Author.Tests.{eqb-true, ne_eqb, le-leb}
-use Rattle.definitions.specs.Format.{then, check}
-use Rattle.definitions.specs.Json.{ascii, quote, is_digit, Json, null, boolean, number, string, array, object, Values, no_values, Members, no_members, Written, a_null, a_true, a_false, a_number, a_string, an_empty_array, an_array, an_empty_object, an_object}
-use Rattle.definitions.specs.JsonForm.{string_of, natural, decimal}
-use Rattle.definitions.specs.JsonReader.{Got, got, stop, not_json, follow, first, string_at, placed, bad_character, number_count, object_at, array_at}
-use Rattle.definitions.specs.FormReader.{not_of_form, wrong, string_there, on_number, number_there, or_stop, converted, object_there, array_there, behind_key, number_text, members_in, values_in}
-use Rattle.json_theorems.proofs.Tests.{false_not_true, none_not_some, then_some}
-use Rattle.json_theorems.proofs.Strings.{StringThere, string_sound, string_complete}
-use Rattle.json_theorems.proofs.Parts.{Followed, follow_got, placed_got}
+use borrow.Author.Tests.{eqb-true, le-leb}
+use Rattle.definitions.specs.Format.{then}
+use Rattle.definitions.specs.Json.{quote, is_digit, Json, number, string, array, object, Written, a_null, a_true, a_false, a_number, a_string, an_empty_array, an_array, an_empty_object, an_object}
+use Rattle.definitions.specs.JsonForm.{string_of}
+use Rattle.definitions.specs.JsonReader.{Got, got, stop, follow, first, string_at, placed, bad_character, number_count, object_at, array_at}
+use Rattle.definitions.specs.FormReader.{wrong, string_there, on_number, number_there, or_stop, converted, object_there, array_there, behind_key, number_text, members_in, values_in}
+use Rattle.json_theorems.proofs.Tests.{none_not_some, then_some}
+use Rattle.json_theorems.proofs.Strings.{string_sound, string_complete}
+use Rattle.json_theorems.proofs.Parts.{follow_got, placed_got}
 use Rattle.json_theorems.proofs.Numbers.{number_sound, number_complete}
 use Rattle.json_theorems.proofs.Loops.{Ends, ValueThere, Faithful, Lets, fold_members, fold_values}
-use Rattle.json_theorems.proofs.Values.{Starts, by_minus, by_digit, number_starts, starts_not, starts_low, ObjectThere, object_sound, object_complete, object_empty, ArrayThere, array_sound, array_complete, array_empty}
+use Rattle.json_theorems.proofs.Values.{Starts, by_minus, by_digit, number_starts, object_sound, object_complete, object_empty, array_sound, array_complete, array_empty}
 
 or_true : (a : Bool) → (a || true) ≡ true
 or_true true = refl

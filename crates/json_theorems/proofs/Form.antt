@@ -1,22 +1,22 @@
 -- The form's reader is faithful, part by part: what is judged, numbers, words, lists, null, a word or an object, an object with one key, an object
 -- by its keys. Assumes nothing.
 use mathlib.Core.Path.{◌≡◌, refl, ap, sym, ◌∙◌}
-use mathlib.Core.Bool.{Bool, true, false, cond, not, ◌&&◌, ◌||◌}
+use mathlib.Core.Bool.{Bool, true, false, cond, ◌&&◌}
 use mathlib.Core.List.{List, [], ◌∷◌, ◌++◌, append_assoc, append-nil}
 use mathlib.Core.Option.{Option, none, some}
-use Prim.Native.Nat.{ℕ, zero, suc, ◌+◌, ◌-◌, ◌*◌, ◌%◌, ◌^◌, ◌≤◌, ◌<◌}
+use Prim.Native.Nat.{ℕ, suc, ◌≤◌, ◌<◌}
 use native.Mathlib.Omega.{arith}
 use lib.Dec.{eqb, leb}
-use lib.ListN.{length, take, drop, get_or, take-append-drop}
-use borrow.Author.Tests.{eqb-true, ne_eqb, le-leb, leb-true}
+use lib.ListN.{length, take, drop, take-append-drop}
+use borrow.Author.Tests.{leb-true}
 use Rattle.definitions.specs.Format.{then, check}
-use Rattle.definitions.specs.Json.{ascii, quote, all, is_digit, Json, null, boolean, number, string, array, object, Values, no_values, value, Members, no_members, member, Written, a_null, a_true, a_false, a_number, a_string, an_empty_array, an_array, an_empty_object, an_object}
-use Rattle.definitions.specs.JsonForm.{same, decimal, natural, string_of, each_of, list_of, Key, Given, field_of, gathered, fields_of, given, needed, optional, Only, only_of, either}
-use Rattle.definitions.specs.JsonReader.{Got, got, stop, not_json, follow, first, string_at, apart, literal_at}
-use Rattle.definitions.specs.FormReader.{not_of_form, wrong, string_there, number_there, object_there, array_there, behind_key, number_text, members_in, values_in}
-use Rattle.definitions.specs.FormReader.{given_twice, Verdict, fine, begun, closing, answered, judged, asked, made, ending, put_in, natural_there, word_there, list_there, null_or, either_there, Held, held, or_refused, one_judge, one_step, one_end, one_there, Typed, value_of, field_judge, field_reader, keyed_there}
-use Rattle.json_theorems.proofs.Tests.{false_not_true, none_not_some, then_some, check_some, both_true}
-use Rattle.json_theorems.proofs.Parts.{Followed, follow_got}
+use Rattle.definitions.specs.Json.{ascii, quote, all, is_digit, Json, null, boolean, number, string, array, object, Values, no_values, value, no_members, member, Written, a_null, a_true, a_false, a_number, a_string, an_empty_array, an_array, an_empty_object, an_object}
+use Rattle.definitions.specs.JsonForm.{same, decimal, natural, string_of, each_of, list_of, Key, field_of, fields_of, needed, optional, Only, only_of, either}
+use Rattle.definitions.specs.JsonReader.{Got, got, stop, not_json, follow, first, apart, literal_at}
+use Rattle.definitions.specs.FormReader.{string_there, number_there, behind_key, number_text, members_in, values_in}
+use Rattle.definitions.specs.FormReader.{Verdict, fine, begun, closing, answered, judged, asked, made, ending, put_in, natural_there, word_there, list_there, null_or, either_there, Held, held, or_refused, one_judge, one_step, one_end, one_there, value_of, keyed_there}
+use Rattle.json_theorems.proofs.Tests.{false_not_true, none_not_some, then_some, both_true}
+use Rattle.json_theorems.proofs.Parts.{follow_got}
 use Rattle.json_theorems.proofs.Loops.{Ends, ValueThere, Faithful, Lets, fold_members, fold_values}
 use Rattle.json_theorems.proofs.Values.{number_starts, starts_not, starts_low, same_true, adding}
 use Rattle.json_theorems.proofs.Faith.{some_same, stopped, string_faithful, number_faithful, object_faithful, array_faithful, key_faithful}

@@ -1,19 +1,19 @@
 -- The loops over the members of an object and the values of an array: they read what RFC 8259 has, given that the reader of a value does.
 -- This is what makes a reader for one kind of object after the other: each is these loops with a step of its own. Assumes nothing.
-use mathlib.Core.Path.{◌≡◌, refl, ap, sym, ◌∙◌}
-use mathlib.Core.Bool.{Bool, true, false, cond, not, ◌&&◌, ◌||◌}
+use mathlib.Core.Path.{◌≡◌, refl, ap, ◌∙◌}
+use mathlib.Core.Bool.{Bool, true, false, cond, ◌||◌}
 use mathlib.Core.List.{List, [], ◌∷◌, ◌++◌, append_assoc}
-use mathlib.Core.Option.{Option, none, some}
-use Prim.Native.Nat.{ℕ, zero, suc, ◌+◌, ◌≤◌, ◌<◌}
+use mathlib.Core.Option.{Option, some}
+use Prim.Native.Nat.{ℕ, zero, suc, ◌≤◌}
 use native.Mathlib.Omega.{arith}
-use lib.Dec.{eqb, leb}
-use lib.ListN.{length, take, drop, get_or, length-append}
-use borrow.Author.Tests.{leb-true, leb-false, eqb-true, eqb-false, not-true, le-leb, lt-leb, eq-eqb, ne_eqb}
-use Rattle.definitions.specs.Format.{then, check}
-use Rattle.definitions.specs.Json.{within, quote, backslash, is_blank, all, Blank, is_digit, Characters, Json, Values, no_values, value, Members, no_members, member, Written, an_empty_array, an_array, an_empty_object, an_object, WrittenValues, last_value, next_value, WrittenMembers, last_member, next_member}
-use Rattle.definitions.specs.JsonReader.{Got, got, stop, not_json, follow, first, blanks, ended, key_at, fields, object_at, items, array_at}
-use Rattle.json_theorems.proofs.Tests.{false_not_true, none_not_some, both_true, one_true, check_some, then_some, within_le}
-use Rattle.json_theorems.proofs.Parts.{Followed, follow_got, ended_got, Skipped, blanks_sound, blanks_complete, KeyThere, key_sound, key_complete}
+use lib.Dec.{eqb}
+use lib.ListN.{length, drop, length-append}
+use borrow.Author.Tests.{eqb-true}
+use Rattle.definitions.specs.Format.{then}
+use Rattle.definitions.specs.Json.{quote, is_blank, all, Blank, is_digit, Characters, Json, Values, no_values, value, Members, no_members, member, Written, WrittenValues, last_value, next_value, WrittenMembers, last_member, next_member}
+use Rattle.definitions.specs.JsonReader.{Got, got, stop, not_json, first, blanks, ended, fields, items}
+use Rattle.json_theorems.proofs.Tests.{both_true, one_true, then_some}
+use Rattle.json_theorems.proofs.Parts.{follow_got, ended_got, blanks_sound, blanks_complete, KeyThere, key_sound, key_complete}
 
 -- ---- what it is to read a value rightly
 

@@ -1,21 +1,20 @@
 -- A collected rule set means what the lines of the filter mean: a call matches if one of its lines matches, and a line without args always does.
 -- Its numbers ascend strictly, and what passes line by line passes when collected. Assumes nothing.
 use mathlib.Core.Path.{◌≡◌, refl, ap, sym, ◌∙◌}
-use mathlib.Core.Bool.{Bool, true, false, cond, not, ◌&&◌, ◌||◌}
+use mathlib.Core.Bool.{Bool, true, false, cond, ◌&&◌, ◌||◌}
 use mathlib.Core.List.{List, [], ◌∷◌, ◌++◌, append_assoc, append-nil}
 use mathlib.Core.Option.{Option, none, some}
-use Prim.Native.Nat.{ℕ, zero, suc, ◌+◌, ◌≤◌, ◌<◌}
+use Prim.Native.Nat.{ℕ, ◌<◌}
 use native.Mathlib.Omega.{arith}
-use lib.Dec.{eqb, leb, ltb}
-use borrow.Author.Tests.{ltb-true, ltb-false, lt-ltb, le-ltb, eqb-true, eqb-false, eq-eqb, ne_eqb}
+use lib.Dec.{eqb, ltb}
+use borrow.Author.Tests.{ltb-true, ltb-false, lt-ltb, eqb-true, eqb-false, ne_eqb}
 use Rattle.definitions.specs.Machine.{Call}
-use Rattle.definitions.specs.RuleSet.{Architecture, architecture_word, Rule, Entry, RuleSet, all_hold, any_holds, matches, listed, guarded, in_second_table, kill_process, meaning}
-use Rattle.definitions.specs.Format.{then}
+use Rattle.definitions.specs.RuleSet.{Architecture, Rule, Entry, all_hold, any_holds, matches, listed, guarded, meaning}
 use Rattle.definitions.specs.JsonForm.{Line, Filter}
 use Rattle.definitions.specs.CallNames.{Slot, number_for}
 use Rattle.definitions.specs.Answer.{ascending}
 use Rattle.definitions.specs.Collected.{rules_of_args, numbered, together, insert, collected, set_with, line_holds, is_number, some_line, args_for, is_named, none_or, lines_together, in_turn, as_upstream, as_written, filter_meaning}
-use Rattle.json_theorems.proofs.Tests.{both_true, false_not_true, then_some}
+use Rattle.json_theorems.proofs.Tests.{then_some}
 
 -- whether some entry for the call's number matches
 abbrev pub some_matches : Call → List Entry → Bool

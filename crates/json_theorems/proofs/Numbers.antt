@@ -1,16 +1,16 @@
 -- Numbers: the reader gives a number exactly where RFC 8259 has one, as long as it goes. Assumes nothing.
-use mathlib.Core.Path.{◌≡◌, refl, ap, sym, ◌∙◌}
-use mathlib.Core.Bool.{Bool, true, false, cond, not, ◌&&◌, ◌||◌}
-use mathlib.Core.List.{List, [], ◌∷◌, ◌++◌, append_assoc, append-nil}
-use mathlib.Core.Option.{Option, none, some}
-use Prim.Native.Nat.{ℕ, zero, suc, ◌+◌, ◌≤◌, ◌<◌}
+use mathlib.Core.Path.{◌≡◌, refl, sym, ◌∙◌}
+use mathlib.Core.Bool.{Bool, true, false, cond, ◌&&◌, ◌||◌}
+use mathlib.Core.List.{List, [], ◌∷◌, ◌++◌, append_assoc}
+use mathlib.Core.Option.{none, some}
+use Prim.Native.Nat.{ℕ, suc, ◌+◌, ◌≤◌}
 use native.Mathlib.Nat.{add_assoc}
 use native.Mathlib.Omega.{arith}
 use lib.Dec.{eqb, leb}
-use lib.ListN.{length, take, drop, get_or, length-append, length-take, length-drop}
+use lib.ListN.{length, take, drop, length-append}
 use lib.Seq.{take-add, drop-append-add, drop-append_seam}
-use borrow.Author.Tests.{leb-true, leb-false, eqb-true, eqb-false, not-true, le-leb, lt-leb, eq-eqb, ne_eqb}
-use Rattle.definitions.specs.Format.{then, check}
+use borrow.Author.Tests.{leb-true, eqb-true, eqb-false, le-leb, ne_eqb}
+use Rattle.definitions.specs.Format.{check}
 use Rattle.definitions.specs.Json.{within, all, is_digit, Digits, digits, Sign, no_sign, minus, Whole, nought, positive, Fraction, no_fraction, fraction, Exponent, no_exponent, exponent, Number, spelled}
 use Rattle.definitions.specs.JsonReader.{first, digit_count, sign_count, whole_count, fraction_count, exponent_sign, exponent_count, number_count}
 use Rattle.json_theorems.proofs.Tests.{false_not_true, none_not_some, both_true, one_true, check_some, then_some, within_le}

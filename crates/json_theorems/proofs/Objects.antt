@@ -1,28 +1,25 @@
 -- Conditions, lines, filters and all filters of a text: the reader of each is faithful to what the schema says, less what the judges refuse.
 -- Assumes nothing.
-use mathlib.Core.Path.{◌≡◌, refl, ap, sym, ◌∙◌}
-use mathlib.Core.Bool.{Bool, true, false, cond, not, ◌&&◌, ◌||◌}
-use mathlib.Core.List.{List, [], ◌∷◌, ◌++◌, append_assoc, append-nil}
+use mathlib.Core.Path.{◌≡◌, refl, ap, ◌∙◌}
+use mathlib.Core.Bool.{Bool, true, false, cond, not, ◌&&◌}
+use mathlib.Core.List.{List, [], ◌∷◌, ◌++◌}
 use mathlib.Core.Option.{Option, none, some}
-use Prim.Native.Nat.{ℕ, zero, suc, ◌+◌, ◌-◌, ◌*◌, ◌%◌, ◌^◌, ◌≤◌, ◌<◌}
+use Prim.Native.Nat.{ℕ, zero, suc, ◌+◌, ◌-◌, ◌%◌, ◌^◌, ◌<◌}
 use native.Mathlib.Omega.{arith}
-use lib.Dec.{eqb, leb}
-use Rattle.definitions.specs.declared.Operator.{Operator}
 use Rattle.definitions.specs.declared.Operator.TheVariants.{MaskedEq}
 use Rattle.definitions.specs.declared.Width.{Width}
 use Rattle.definitions.specs.declared.Condition.{Condition}
 use Rattle.definitions.specs.RuleSet.{Rule}
 use Rattle.definitions.specs.Format.{then, check}
 use Rattle.definitions.specs.Json.{ascii, Json, null, boolean, number, string, array, object, Values, no_values, value, Members, no_members, member}
-use Rattle.definitions.specs.JsonForm.{same, natural, string_of, each_of, list_of, Key, Given, field_of, gathered, fields_of, given, needed, optional, Only, only_of, either, Word, word_of, action_words, numbered_words, width_words, operator_words, action_of, operator_of, Compared, Line, Filter, condition_keys, condition_of, line_keys, line_of, filter_keys, filter_of, named, filters_from, filters_of}
-use Rattle.definitions.specs.JsonReader.{Got, got, stop}
-use Rattle.definitions.specs.FormReader.{string_there, object_there, behind_key, members_in}
-use Rattle.definitions.specs.FormReader.{equal_actions, empty_args, wrong_index, too_wide, given_twice, unknown_call, plain, answered, judged, asked, made, ending, put_in, natural_there, word_there, list_there, null_or, either_there, held, or_refused, one_judge, one_step, one_end, one_there, typed, has_typed, value_of, field_judge, field_reader, keyed_there, action_there, operator_there, as_index, as_width, as_operator, as_value, as_comment, condition_from, condition_reads, condition_there, as_call, as_args, as_remark, line_from, line_reads, line_there, as_action, as_lines, filter_from, filter_reads, filter_there, filters_there, all_read, whole, read_filters, Judges, Verdict, Held, Typed, ConditionPart, LinePart, FilterPart, fine, begun, closing, the_index, the_width, the_operator, the_value, the_comment, the_call, the_args, the_remark, the_action, the_lines}
-use Rattle.json_theorems.proofs.Tests.{false_not_true, none_not_some, then_some, check_some, both_true}
+use Rattle.definitions.specs.JsonForm.{same, natural, string_of, each_of, list_of, Given, fields_of, given, needed, optional, Only, only_of, word_of, action_words, numbered_words, width_words, operator_words, action_of, operator_of, Compared, Line, Filter, condition_keys, condition_of, line_keys, line_of, filter_keys, filter_of, named, filters_from, filters_of}
+use Rattle.definitions.specs.FormReader.{string_there, behind_key, members_in}
+use Rattle.definitions.specs.FormReader.{equal_actions, empty_args, wrong_index, too_wide, given_twice, unknown_call, put_in, natural_there, list_there, action_there, operator_there, as_index, as_width, as_operator, as_value, as_comment, condition_from, condition_reads, condition_there, as_call, as_args, as_remark, line_from, line_reads, line_there, as_action, as_lines, filter_from, filter_reads, filter_there, filters_there, Judges, ConditionPart, LinePart, FilterPart, the_index, the_width, the_operator, the_value, the_comment, the_call, the_args, the_remark, the_action, the_lines}
+use Rattle.json_theorems.proofs.Tests.{none_not_some, then_some, check_some}
 use Rattle.json_theorems.proofs.Loops.{Faithful, Lets, fold_members}
 use Rattle.json_theorems.proofs.Faith.{some_same, string_faithful, object_faithful}
-use Rattle.json_theorems.proofs.Typed.{slot_of, slots}
-use Rattle.json_theorems.proofs.Form.{faithful_as, fine_of, judged_faithful, then_same, asked_faithful, made_faithful, ending_faithful, put_faithful, none_faithful, natural_faithful, word_faithful, list_faithful, or_null, null_faithful, is_string, either_faithful, only_by, one_faithful, keys_below, keyed_object, needed_slot, optional_slot}
+use Rattle.json_theorems.proofs.Typed.{slots}
+use Rattle.json_theorems.proofs.Form.{faithful_as, then_same, asked_faithful, put_faithful, none_faithful, natural_faithful, word_faithful, list_faithful, or_null, null_faithful, is_string, either_faithful, one_faithful, keyed_object, needed_slot, optional_slot}
 
 -- ---- actions and operators
 

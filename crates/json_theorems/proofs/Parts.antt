@@ -1,18 +1,16 @@
 -- Blanks, keys, and the loops over members and values: they read what RFC 8259 has, given that the reader of a value does. Assumes nothing.
-use mathlib.Core.Path.{◌≡◌, refl, ap, sym, ◌∙◌}
-use mathlib.Core.Bool.{Bool, true, false, cond, not, ◌&&◌, ◌||◌}
-use mathlib.Core.List.{List, [], ◌∷◌, ◌++◌, append_assoc}
-use mathlib.Core.Option.{Option, none, some}
-use Prim.Native.Nat.{ℕ, zero, suc, ◌+◌, ◌≤◌, ◌<◌}
+use mathlib.Core.Path.{◌≡◌, refl, ap, ◌∙◌}
+use mathlib.Core.Bool.{Bool, true, false, cond}
+use mathlib.Core.List.{List, [], ◌∷◌, ◌++◌}
+use Prim.Native.Nat.{ℕ, ◌≤◌}
 use native.Mathlib.Omega.{arith}
-use lib.Dec.{eqb, leb}
-use lib.ListN.{length, take, drop, get_or, length-append}
-use borrow.Author.Tests.{leb-true, leb-false, eqb-true, eqb-false, not-true, le-leb, lt-leb, eq-eqb, ne_eqb}
-use Rattle.definitions.specs.Format.{then, check}
-use Rattle.definitions.specs.Json.{within, quote, backslash, is_blank, all, Blank, is_digit, Characters, Json, Values, no_values, value, Members, no_members, member, Written, WrittenValues, last_value, next_value, WrittenMembers, last_member, next_member}
-use Rattle.definitions.specs.JsonReader.{Got, got, stop, not_json, follow, first, blanks, ended, unless, placed, bad_character, string_at, characters, key_at, fields, object_at, items, array_at}
-use Rattle.json_theorems.proofs.Tests.{false_not_true, none_not_some, both_true, one_true, check_some, then_some, within_le}
-use Rattle.json_theorems.proofs.Strings.{StringThere, characters_sound, string_complete}
+use lib.Dec.{eqb}
+use lib.ListN.{length}
+use borrow.Author.Tests.{eqb-true, ne_eqb}
+use Rattle.definitions.specs.Json.{quote, is_blank, all, Blank, Characters}
+use Rattle.definitions.specs.JsonReader.{Got, got, stop, not_json, follow, first, blanks, ended, unless, placed, bad_character, string_at, characters, key_at}
+use Rattle.json_theorems.proofs.Tests.{both_true}
+use Rattle.json_theorems.proofs.Strings.{characters_sound, string_complete}
 
 -- ---- what came of parts one after the other
 

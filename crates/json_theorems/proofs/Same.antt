@@ -4,20 +4,19 @@ use mathlib.Core.Path.{◌≡◌, refl, ap, sym, ◌∙◌}
 use mathlib.Core.Bool.{Bool, true, false, cond, not, ◌&&◌, ◌||◌}
 use mathlib.Core.List.{List, [], ◌∷◌, ◌++◌}
 use mathlib.Core.Option.{Option, none, some}
-use Prim.Native.Nat.{ℕ, zero, suc, ◌+◌, ◌-◌, ◌*◌, ◌%◌, ◌^◌, ◌≤◌, ◌<◌}
+use Prim.Native.Nat.{ℕ, zero, suc, ◌+◌, ◌-◌, ◌^◌, ◌≤◌}
 use native.Mathlib.Omega.{arith}
 use lib.Dec.{eqb, leb}
-use lib.ListN.{length, take, drop, get_or, length-append}
-use borrow.Author.Tests.{eqb-true, eqb-false, ne_eqb, le-leb, leb-true}
+use lib.ListN.{length, take, drop, length-append}
+use borrow.Author.Tests.{eqb-true, ne_eqb}
 use Rattle.definitions.specs.Format.{then, check}
-use Rattle.definitions.specs.Json.{ascii, quote, is_blank, all, is_digit, Json, null, boolean, number, string, array, object, Text, text}
-use Rattle.definitions.specs.JsonForm.{same, decimal, Only, field_of, Key, word_of, condition_keys, line_keys, filter_keys, named, Filter}
-use Rattle.definitions.specs.JsonReader.{Got, got, stop, not_json, follow, first, blanks, ended, unless, placed, bad_character, bad_number, bad_whole, string_at, key_at, any_key, fields, object_at, items, array_at, literal_at, apart, digit_count, sign_count, whole_count, number_count, on_count, values_of, members_of, value_at, nothing_left, text_at}
+use Rattle.definitions.specs.Json.{ascii, quote, all, is_digit, Json, null, number, string, array, object, Text, text}
+use Rattle.definitions.specs.JsonForm.{same, decimal, Only, field_of, Key, condition_keys, line_keys, filter_keys, named, Filter}
+use Rattle.definitions.specs.JsonReader.{Got, got, stop, not_json, follow, first, blanks, ended, unless, placed, bad_character, bad_number, string_at, key_at, any_key, fields, object_at, items, array_at, literal_at, digit_count, sign_count, whole_count, number_count, on_count, values_of, members_of, value_at}
 use Rattle.definitions.specs.FormReader.{not_of_form, wrong, string_there, on_number, number_there, object_there, array_there, behind_key}
-use Rattle.definitions.specs.FormReader.{equal_actions, empty_args, wrong_index, too_wide, given_twice, unknown_call, plain, answered, judged, asked, made, ending, put_in, natural_there, word_there, list_there, null_or, either_there, held, or_refused, one_judge, one_step, one_end, one_there, typed, has_typed, value_of, field_judge, field_reader, keyed_there, action_there, operator_there, as_index, as_width, as_operator, as_value, as_comment, condition_from, condition_reads, condition_there, as_call, as_args, as_remark, line_from, line_reads, line_there, as_action, as_lines, filter_from, filter_reads, filter_there, filters_there, all_read, whole, read_filters, is_some, judges_of, told_of, told, Judges, Verdict, Held, Typed, ConditionPart, LinePart, FilterPart, Told, fine, begun, closing}
+use Rattle.definitions.specs.FormReader.{equal_actions, empty_args, wrong_index, too_wide, given_twice, unknown_call, answered, judged, asked, made, ending, put_in, natural_there, word_there, list_there, null_or, either_there, held, or_refused, one_judge, one_step, one_end, one_there, typed, has_typed, value_of, field_judge, field_reader, keyed_there, action_there, operator_there, condition_from, condition_reads, condition_there, line_from, line_reads, line_there, filter_from, filter_reads, filter_there, filters_there, all_read, whole, read_filters, Judges, Verdict, Held, Typed, fine, begun, closing}
 use Rattle.json_theorems.proofs.Parts.{blanks_complete}
-use Rattle.json_theorems.proofs.Loops.{Faithful}
-use Rattle.json_theorems.proofs.Tests.{false_not_true, none_not_some, one_true, within_le}
+use Rattle.json_theorems.proofs.Tests.{false_not_true, one_true, within_le}
 use Rattle.json_theorems.proofs.Values.{written_begins, blank_rest, all_blank, value_faithful, Starts, by_minus, by_digit, starts_low, starts_not}
 
 -- h goes as g goes: where g got something, so did h, with the same behind it; where g stopped with 10, so did h, at the same place

@@ -1,24 +1,23 @@
 -- The judges of the reader refuse exactly the filters of which no rule set is made, so that the reader gives filters exactly where the text means
 -- sets. Assumes nothing.
 use mathlib.Core.Path.{◌≡◌, refl, ap, sym, ◌∙◌}
-use mathlib.Core.Bool.{Bool, true, false, cond, not, ◌&&◌, ◌||◌}
-use mathlib.Core.List.{List, [], ◌∷◌, ◌++◌}
+use mathlib.Core.Bool.{Bool, true, false, not, ◌&&◌}
+use mathlib.Core.List.{List, [], ◌∷◌}
 use mathlib.Core.Option.{Option, none, some}
-use Prim.Native.Nat.{ℕ, zero, suc}
-use lib.Dec.{eqb, leb}
-use Rattle.definitions.specs.declared.Condition.{Condition}
+use Prim.Native.Nat.{ℕ}
+use lib.Dec.{eqb}
 use Rattle.definitions.specs.RuleSet.{Architecture, Rule, Entry, RuleSet}
 use Rattle.definitions.specs.Format.{then, check}
-use Rattle.definitions.specs.Answer.{all, has_conditions, index_taken, fits_width, rules_filled, indices_taken, widths_fit}
+use Rattle.definitions.specs.Answer.{all, has_conditions, index_taken, fits_width}
 use Rattle.definitions.specs.JsonForm.{Line, Filter, filters_of}
 use Rattle.definitions.specs.Json.{Json, Text}
 use Rattle.definitions.specs.CallNames.{Slot, number_for}
 use Rattle.definitions.specs.Collected.{rules_of_args, numbered, collected, set_with, taken, set_of, sets_of, NamedSet}
-use Rattle.definitions.specs.JsonReader.{Got, got, stop}
-use Rattle.definitions.specs.FormReader.{Judges, is_some, judges_of, read_filters}
-use Rattle.json_theorems.proofs.Tests.{false_not_true, none_not_some, then_some, check_some, both_true}
+use Rattle.definitions.specs.JsonReader.{got}
+use Rattle.definitions.specs.FormReader.{is_some, judges_of, read_filters}
+use Rattle.json_theorems.proofs.Tests.{false_not_true}
 use Rattle.json_theorems.proofs.Objects.{every, ok_condition, ok_args, ok_line, ok_filter}
-use Rattle.json_theorems.proofs.Whole.{Front, front_sound, front_complete}
+use Rattle.json_theorems.proofs.Whole.{front_sound, front_complete}
 
 some_same : {A : Type 0} {a b : A} → some a ≡ some b → a ≡ b
 some_same e = cc

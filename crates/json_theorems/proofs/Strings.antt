@@ -1,17 +1,17 @@
 -- Strings: the reader gives a string exactly where RFC 8259 has one, with its characters in UTF-8 and the text behind it. Assumes nothing.
-use mathlib.Core.Path.{◌≡◌, refl, ap, sym, ◌∙◌}
+use mathlib.Core.Path.{◌≡◌, refl, sym, ◌∙◌}
 use mathlib.Core.Bool.{Bool, true, false, cond, not, ◌&&◌, ◌||◌}
 use mathlib.Core.List.{List, [], ◌∷◌, ◌++◌, append_assoc}
 use mathlib.Core.Option.{Option, none, some}
 use Prim.Native.Nat.{ℕ, zero, suc, ◌+◌, ◌≤◌, ◌<◌}
 use native.Mathlib.Omega.{arith}
 use lib.Dec.{eqb, leb}
-use lib.ListN.{length, take, drop, get_or, length-append, length-take, length-drop, take-append-drop, get_or-eq_default}
-use lib.Seq.{take_at, drop_at, drop-append_seam}
+use lib.ListN.{length, take, drop, get_or, length-append, take-append-drop, get_or-eq_default}
+use lib.Seq.{take_at, drop-append_seam}
 use borrow.Author.Tests.{leb-true, leb-false, eqb-true, not-true, le-leb, lt-leb, eq-eqb, ne_eqb}
 use Rattle.definitions.specs.Format.{then, check}
 use Rattle.definitions.specs.Json.{within, quote, backslash, is_tail, is_unescaped, short_escape, hex_digit, digit, hex4, is_high, is_low, utf8, pair_of, Character, unescaped, escaped, unit, pair, Characters, closed, another}
-use Rattle.definitions.specs.JsonReader.{Got, got, stop, not_json, follow, first, Piece, piece, byte_count, plain_piece, hex_at, pair_piece, unit_or, escape_piece, character, on_piece, characters, string_at}
+use Rattle.definitions.specs.JsonReader.{Got, got, stop, follow, first, Piece, piece, byte_count, plain_piece, hex_at, pair_piece, unit_or, escape_piece, character, on_piece, characters, string_at}
 use Rattle.json_theorems.proofs.Tests.{false_not_true, none_not_some, both_true, one_true, check_some, then_some, within_le, take_cons}
 
 -- ---- complete: a character as it is written is read

@@ -1,16 +1,15 @@
 -- The loops of the form's reader, one turn each, by the steps that the code takes.
-use mathlib.Core.Path.{◌≡◌, refl, ap, sym, ◌∙◌}
-use mathlib.Core.Bool.{Bool, true, false, cond, not}
+use mathlib.Core.Path.{◌≡◌, refl, ◌∙◌}
+use mathlib.Core.Bool.{Bool, true, false, cond}
 use mathlib.Core.List.{List, [], ◌∷◌, ◌++◌}
 use mathlib.Core.Option.{Option, none, some}
-use Prim.Native.Nat.{ℕ, zero, suc}
+use Prim.Native.Nat.{ℕ, suc}
 use lib.Dec.{eqb}
 use lib.ListN.{drop, length}
-use Rattle.definitions.specs.Format.{then, check}
 use Rattle.definitions.specs.Json.{quote}
 use Rattle.definitions.specs.JsonForm.{Key, field_of}
 use Rattle.definitions.specs.JsonReader.{Got, got, stop, not_json, follow, first, blanks, ended, string_at, placed, bad_character, unless, key_at, fields, object_at, items, array_at}
-use Rattle.definitions.specs.FormReader.{not_of_form, given_twice, wrong, or_stop, behind_key, put_in, Typed, typed, has_typed, field_judge, field_reader, object_there, array_there, list_there}
+use Rattle.definitions.specs.FormReader.{given_twice, wrong, or_stop, behind_key, put_in, Typed, typed, has_typed, field_judge, field_reader, object_there, array_there, list_there}
 use Rattle.json_theorems.specs.Turns.{open_there, field_there, colon_there, more_there, Turned, turned, turned_there, field_turn}
 
 -- what comes behind a value that was read: the turns that are left, or the end

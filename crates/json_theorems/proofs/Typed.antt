@@ -1,16 +1,16 @@
 -- Objects by their keys: to convert each value as it comes, which is what code does, gives what gathering the values and converting them afterwards
 -- gives, which is what the schema says. With `object_faithful` this makes the reader of each kind of object. Assumes nothing.
 use mathlib.Core.Path.{◌≡◌, refl, ap, sym, ◌∙◌}
-use mathlib.Core.Bool.{Bool, true, false, cond, not, ◌&&◌, ◌||◌}
+use mathlib.Core.Bool.{Bool, true, false, cond, not, ◌||◌}
 use mathlib.Core.List.{List, [], ◌∷◌}
 use mathlib.Core.Option.{Option, none, some}
-use Prim.Native.Nat.{ℕ, zero, suc, ◌≤◌, ◌<◌}
+use Prim.Native.Nat.{ℕ, ◌<◌}
 use borrow.Author.Tests.{eqb-true, eq-eqb, not-true}
 use lib.Dec.{eqb}
 use Rattle.definitions.specs.Format.{then, check}
 use Rattle.definitions.specs.Json.{Json, Members, no_members, member}
 use Rattle.definitions.specs.JsonForm.{Key, Given, field_of, has, gathered, given}
-use Rattle.definitions.specs.JsonReader.{Got, got, stop, follow}
+use Rattle.definitions.specs.JsonReader.{Got, got, follow}
 use Rattle.definitions.specs.FormReader.{object_there, behind_key, members_in}
 use Rattle.definitions.specs.FormReader.{given_twice, Typed, typed, has_typed, value_of, field_judge, field_reader}
 use Rattle.json_theorems.proofs.Tests.{then_some, check_some, none_not_some, false_not_true}

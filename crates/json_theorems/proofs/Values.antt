@@ -1,23 +1,23 @@
 -- Any value, and whole texts: the reader reads exactly the texts of RFC 8259, so that a text has at most one value. Assumes nothing.
 use mathlib.Core.Path.{◌≡◌, refl, ap, sym, ◌∙◌}
-use mathlib.Core.Bool.{Bool, true, false, cond, not, ◌&&◌, ◌||◌}
+use mathlib.Core.Bool.{Bool, true, false, cond}
 use mathlib.Core.List.{List, [], ◌∷◌, ◌++◌, append_assoc, append-nil}
 use mathlib.Core.Option.{Option, none, some}
-use Prim.Native.Nat.{ℕ, zero, suc, ◌+◌, ◌≤◌, ◌<◌}
+use Prim.Native.Nat.{ℕ, zero, suc, ◌≤◌}
 use native.Mathlib.Omega.{arith}
-use lib.Dec.{eqb, leb}
-use lib.ListN.{length, take, drop, get_or, length-append, take-append-drop}
+use lib.Dec.{eqb}
+use lib.ListN.{length, take, drop, length-append, take-append-drop}
 use lib.Seq.{take-append_seam, drop-append_seam}
-use borrow.Author.Tests.{leb-true, leb-false, eqb-true, eqb-false, not-true, le-leb, lt-leb, eq-eqb, ne_eqb}
-use Rattle.definitions.specs.Format.{then, check}
-use Rattle.definitions.specs.Json.{ascii, within, quote, is_blank, all, Blank, is_digit, Characters, Sign, no_sign, minus, Whole, nought, positive, Number, spelled, Json, null, boolean, number, string, array, object, Values, no_values, value, Members, no_members, member, Written, a_null, a_true, a_false, a_number, a_string, an_empty_array, an_array, an_empty_object, an_object, WrittenValues, last_value, next_value, WrittenMembers, last_member, next_member, Text, text}
+use borrow.Author.Tests.{eqb-true, eq-eqb, ne_eqb}
+use Rattle.definitions.specs.Format.{then}
+use Rattle.definitions.specs.Json.{ascii, quote, is_blank, all, Blank, no_sign, minus, nought, positive, Number, spelled, Json, null, boolean, number, string, array, object, Values, no_values, value, Members, no_members, member, Written, a_null, a_true, a_false, a_number, a_string, an_empty_array, an_array, an_empty_object, an_object, WrittenValues, last_value, next_value, WrittenMembers, last_member, next_member, Text, text}
 use Rattle.definitions.specs.JsonForm.{same, Only}
-use Rattle.definitions.specs.JsonReader.{Got, got, stop, not_json, follow, first, blanks, ended, placed, bad_character, string_at, fields, any_key, object_at, items, array_at, apart, literal_at, values_of, members_of, on_count, number_count, value_at, nothing_left, text_at}
-use Rattle.json_theorems.proofs.Tests.{false_not_true, none_not_some, both_true, one_true, check_some, then_some, within_le}
-use Rattle.json_theorems.proofs.Strings.{StringThere, characters_sound, string_complete, string_sound}
-use Rattle.json_theorems.proofs.Parts.{Followed, follow_got, placed_got, ended_got, Skipped, blanks_sound, blanks_complete}
+use Rattle.definitions.specs.JsonReader.{Got, got, stop, not_json, follow, first, blanks, placed, bad_character, string_at, fields, any_key, object_at, items, array_at, apart, literal_at, values_of, members_of, on_count, number_count, value_at, nothing_left, text_at}
+use Rattle.json_theorems.proofs.Tests.{false_not_true, both_true, then_some, within_le}
+use Rattle.json_theorems.proofs.Strings.{string_complete, string_sound}
+use Rattle.json_theorems.proofs.Parts.{follow_got, placed_got, Skipped, blanks_sound, blanks_complete}
 use Rattle.json_theorems.proofs.Numbers.{number_sound, number_complete}
-use Rattle.json_theorems.proofs.Loops.{goes_on, Ends, ValueThere, Faithful, Lets, fold_members, fold_values, Begins, blank_ends, ends_behind, MembersThere, fields_sound, fields_complete, ValuesThere, items_sound, items_complete}
+use Rattle.json_theorems.proofs.Loops.{Ends, ValueThere, Faithful, Lets, fold_members, fold_values, Begins, blank_ends, fields_sound, fields_complete, items_sound, items_complete}
 
 -- ---- what values begin with
 

@@ -1,20 +1,20 @@
 -- Statement 2, front: the reader that the code follows gives filters for a text exactly if the text has a value (RFC 8259) of which the schema makes
 -- these filters, of which no judge refuses one. Assumes nothing.
 use mathlib.Core.Path.{◌≡◌, refl, ap, sym, ◌∙◌}
-use mathlib.Core.Bool.{Bool, true, false, cond, not, ◌&&◌, ◌||◌}
-use mathlib.Core.List.{List, [], ◌∷◌, ◌++◌, append_assoc, append-nil}
+use mathlib.Core.Bool.{Bool, true}
+use mathlib.Core.List.{List, [], ◌∷◌, ◌++◌, append-nil}
 use mathlib.Core.Option.{Option, none, some}
-use Prim.Native.Nat.{ℕ, zero, suc, ◌+◌, ◌≤◌, ◌<◌}
+use Prim.Native.Nat.{ℕ}
 use native.Mathlib.Omega.{arith}
-use lib.ListN.{length, length-append}
-use Rattle.definitions.specs.Format.{then, check}
-use Rattle.definitions.specs.Json.{is_blank, all, Blank, Json, Written, Text, text}
+use lib.ListN.{length}
+use Rattle.definitions.specs.Format.{check}
+use Rattle.definitions.specs.Json.{Blank, Json, Written, Text, text}
 use Rattle.definitions.specs.JsonForm.{Line, Filter, filters_of}
-use Rattle.definitions.specs.JsonReader.{Got, got, stop, not_json, follow, first, blanks}
+use Rattle.definitions.specs.JsonReader.{Got, got, blanks}
 use Rattle.definitions.specs.FormReader.{Judges, plain, all_read, whole, filters_there, read_filters}
-use Rattle.json_theorems.proofs.Tests.{false_not_true, none_not_some, then_some, check_some, both_true}
-use Rattle.json_theorems.proofs.Parts.{Followed, follow_got, Skipped, blanks_sound, blanks_complete}
-use Rattle.json_theorems.proofs.Loops.{Ends, ValueThere, Faithful, blank_ends}
+use Rattle.json_theorems.proofs.Tests.{then_some, check_some}
+use Rattle.json_theorems.proofs.Parts.{follow_got, blanks_sound, blanks_complete}
+use Rattle.json_theorems.proofs.Loops.{Faithful}
 use Rattle.json_theorems.proofs.Values.{written_begins, blank_rest, all_blank}
 use Rattle.json_theorems.proofs.Faith.{some_same, stopped}
 use Rattle.json_theorems.proofs.Objects.{every, ok_condition, ok_args, ok_line, ok_filter, only, filters_by, filters_faithful, filters_only}

@@ -14,7 +14,7 @@ use Rattle.theorems.specs.Length.{conditions_length, rule_length, body_length, e
 use Rattle.theorems.specs.Length as lengths
 use Rattle.theorems.proofs.Lengths.{length_step, length_emitted}
 use Rattle.theorems.proofs.Faults.{least_append}
-use Rattle.judge.specs.Walk.{Sum, sum, total, tells, tell_condition, conditions_start, tell_rule, tell_entry}
+use Rattle.judge.specs.Walk.{Sum, total, tells, tell_condition, conditions_start, tell_rule, tell_entry}
 
 -- ---- conditions
 

@@ -12,9 +12,8 @@ use borrow.Author.Tests.{leb-true, leb-false, ltb-true, ltb-false, eqb-true, le-
 use Rattle.definitions.specs.declared.Fault.{Fault}
 use Rattle.definitions.specs.Word.{number_at}
 use Rattle.definitions.specs.RuleSet.{Rule, Entry, no_rules}
-use Rattle.definitions.specs.Format.{Read, then, times, condition_at, rule_at, entry_at, read}
+use Rattle.definitions.specs.Format.{Read, then, times, condition_at, rule_at, entry_at}
 use Rattle.definitions.specs.Answer.{fault, nowhere, unless, count_faults, too_many, least_of}
-use Rattle.theorems.specs.Length as lengths
 use Rattle.theorems.proofs.Tests.{both_true}
 use Rattle.set_view.specs.Parts.{parts, condition_here, rules_here}
 use Rattle.set_view.proofs.Walk.{parts_many}

@@ -15,7 +15,6 @@ use Rattle.definitions.specs.RuleSet.{Architecture, Entry, RuleSet, guarded, is_
 use Rattle.definitions.specs.Format.{is_there, Read, then, check, times, native_of, architecture_of, entry_at, read}
 use Rattle.definitions.specs.Answer.{placeless, no_fault, unless, entries_faults, set_faults, least_of}
 use Rattle.theorems.specs.Length.{head_length, filter_length}
-use Rattle.theorems.specs.Length as lengths
 use Rattle.theorems.proofs.Faults.{least_append}
 use Rattle.set_view.specs.Names.{named_architecture, guards_by}
 use Rattle.set_view.specs.Parts.{head_taken, most_bytes, entry_here, entry_past}

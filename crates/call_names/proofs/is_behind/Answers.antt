@@ -1,6 +1,5 @@
 -- src/lib.rt:124:9
-use mathlib.Core.Bool.{true, false}
-use Prim.Native.Nat.{◌-◌, ◌/◌}
+use Prim.Native.Nat.{◌-◌}
 use native.Mathlib.Omega.{arith}
 use Rattle.call_names.proofs.Search as laws
 use Rattle.call_names.proofs.is_behind.Goals as goal

@@ -1,6 +1,4 @@
 -- src/lib.rt:73:9
-use mathlib.Core.Bool.{true, false}
-use Prim.Native.Nat.{◌-◌, ◌/◌}
 use Rattle.call_names.proofs.Search as laws
 use Rattle.call_names.proofs.is_named.Goals as goal
 

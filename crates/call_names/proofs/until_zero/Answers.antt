@@ -1,5 +1,3 @@
-use mathlib.Core.Bool.{true, false}
-use Prim.Native.Nat.{◌-◌}
 use native.Mathlib.Omega.{arith}
 use Rattle.call_names.proofs.Search as laws
 use Rattle.call_names.proofs.until_zero.Goals as goal

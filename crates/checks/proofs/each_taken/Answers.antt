@@ -2,7 +2,6 @@
 use mathlib.Core.Path.{sym, ◌∙◌}
 use native.Mathlib.Omega.{arith}
 use borrow.Author.Tests.{not-true, not-false}
-use Prim.Native.Nat.{◌-◌}
 use Rattle.checks.proofs.Walk.{left_start, each_turn, each_end}
 use Rattle.checks.proofs.each_taken.Goals as goal
 

@@ -2,8 +2,6 @@
 use mathlib.Core.Path.{refl, sym, ◌∙◌, ap}
 use native.Mathlib.Omega.{arith}
 use borrow.Author.Tests.{not-true, not-false}
-use Prim.Native.Nat.{◌-◌}
-use mathlib.Core.Bool.{true}
 use Rattle.definitions.specs.Kernel.{effect_of}
 use Rattle.checks.proofs.Walk.{left_start}
 use Rattle.checks.proofs.Scratch.{scratch_start, there_here, inside_here, taken_rest, scratch_stop, scratch_turn, scratch_end}

@@ -1,5 +1,4 @@
 -- `list_keys` meets its contract: the keys listed and those of the lines left are the keys of all lines.
-use Prim.Native.Nat.{◌-◌}
 use native.Mathlib.Omega.{arith}
 use Rattle.collect.proofs.Listing.{raw_sizes, listing_start, listing_room, listing_turn, listing_end}
 use Rattle.collect.proofs.list_keys.Goals as goal

@@ -1,5 +1,4 @@
 -- `field_turns` meets its contract: turn by turn, those that are left are all of them.
-use Prim.Native.Nat.{◌-◌}
 use native.Mathlib.Omega.{arith}
 use Rattle.json_scan.proofs.Telling.{came}
 use Rattle.json_filters.proofs.Gathering.{untouched}

@@ -1,7 +1,6 @@
 -- `conditions_there` meets its contract: a turn of the loop reads a condition and writes it.
 use mathlib.Core.Path.{refl, ◌∙◌}
 use mathlib.Core.List.{[]}
-use Prim.Native.Nat.{◌-◌}
 use native.Mathlib.Omega.{arith}
 use lib.ListN.{drop}
 use Rattle.definitions.specs.FormReader.{condition_there, judges_of}

@@ -1,6 +1,5 @@
 -- `fields_there` meets its contract: a turn of the loop reads a key, its value, and what stands behind it.
 use mathlib.Core.Path.{refl, ap, ◌∙◌}
-use Prim.Native.Nat.{◌-◌}
 use native.Mathlib.Omega.{arith}
 use lib.ListN.{drop}
 use Rattle.json_lines.specs.declared.LineRead.{LineRead}

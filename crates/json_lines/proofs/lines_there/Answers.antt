@@ -1,6 +1,5 @@
 -- `lines_there` meets its contract: a turn of the loop reads a line and writes its entry behind the ones before.
 use mathlib.Core.Path.{refl, ◌∙◌}
-use Prim.Native.Nat.{◌-◌}
 use native.Mathlib.Omega.{arith}
 use lib.ListN.{drop}
 use Rattle.definitions.specs.FormReader.{line_there, judges_of}

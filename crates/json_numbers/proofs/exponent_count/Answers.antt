@@ -1,7 +1,7 @@
 -- src/lib.rt:125:21
 use mathlib.Core.Path.{refl, ap, sym, ◌∙◌}
-use mathlib.Core.Bool.{true, false, ◌||◌}
-use Prim.Native.Nat.{ℕ, ◌-◌, ◌/◌}
+use mathlib.Core.Bool.{◌||◌}
+use Prim.Native.Nat.{ℕ}
 use native.Mathlib.Omega.{arith}
 use lib.Dec.{eqb}
 use borrow.Author.Tests.{not-true, not-false}

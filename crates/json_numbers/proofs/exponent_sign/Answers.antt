@@ -1,7 +1,5 @@
 -- src/lib.rt:111:9
 use mathlib.Core.Path.{sym, ◌∙◌}
-use mathlib.Core.Bool.{true, false}
-use Prim.Native.Nat.{◌-◌, ◌/◌}
 use native.Mathlib.Omega.{arith}
 use borrow.Author.Tests.{eq-eqb, ne_eqb}
 use Rattle.json_numbers.proofs.Counting as laws

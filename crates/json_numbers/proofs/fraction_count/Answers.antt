@@ -1,7 +1,5 @@
 -- src/lib.rt:88:8
 use mathlib.Core.Path.{refl, sym, ◌∙◌}
-use mathlib.Core.Bool.{true, false}
-use Prim.Native.Nat.{◌-◌, ◌/◌}
 use native.Mathlib.Omega.{arith}
 use Rattle.json_numbers.proofs.Counting as laws
 use Rattle.json_numbers.proofs.fraction_count.Goals as goal

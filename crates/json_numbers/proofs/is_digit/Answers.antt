@@ -1,6 +1,4 @@
 -- src/lib.rt:40:9
-use mathlib.Core.Bool.{true, false}
-use Prim.Native.Nat.{◌-◌, ◌/◌}
 use borrow.Author.Tests.{le-leb, lt-leb}
 use Rattle.json_numbers.proofs.is_digit.Goals as goal
 

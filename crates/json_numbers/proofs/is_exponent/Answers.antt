@@ -1,6 +1,4 @@
 -- src/lib.rt:102:9
-use mathlib.Core.Bool.{true, false}
-use Prim.Native.Nat.{◌-◌, ◌/◌}
 use borrow.Author.Tests.{eq-eqb, ne_eqb}
 use Rattle.json_numbers.proofs.is_exponent.Goals as goal
 

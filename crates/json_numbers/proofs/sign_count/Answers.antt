@@ -1,7 +1,5 @@
 -- src/lib.rt:64:8
 use mathlib.Core.Path.{sym, ◌∙◌}
-use mathlib.Core.Bool.{true, false}
-use Prim.Native.Nat.{◌-◌, ◌/◌}
 use native.Mathlib.Omega.{arith}
 use Rattle.json_numbers.proofs.Counting as laws
 use Rattle.json_numbers.proofs.sign_count.Goals as goal

@@ -1,7 +1,5 @@
 -- src/lib.rt:141:9
 use mathlib.Core.Path.{refl}
-use mathlib.Core.Bool.{true, false}
-use Prim.Native.Nat.{◌-◌, ◌/◌}
 use native.Mathlib.Omega.{arith}
 use borrow.Author.Tests.{not-true, not-false}
 use Rattle.json_numbers.proofs.Counting as laws

@@ -1,6 +1,4 @@
 use mathlib.Core.Path.{◌∙◌}
-use mathlib.Core.Bool.{true, false}
-use Prim.Native.Nat.{◌-◌}
 use Rattle.json_scan.proofs.Scanning as laws
 use Rattle.json_scan.proofs.character_count.Goals as goal
 

@@ -1,6 +1,6 @@
 use mathlib.Core.Path.{ap, sym, ◌∙◌}
-use mathlib.Core.Bool.{Bool, true, false, cond, not}
-use Prim.Native.Nat.{◌+◌, ◌-◌}
+use mathlib.Core.Bool.{Bool, cond, not}
+use Prim.Native.Nat.{◌+◌}
 use Rattle.json_scan.proofs.Scanning as laws
 use Rattle.json_scan.proofs.escape_count.Goals as goal
 

@@ -1,6 +1,4 @@
 use mathlib.Core.Path.{◌∙◌}
-use mathlib.Core.Bool.{true, false}
-use Prim.Native.Nat.{◌-◌}
 use native.Mathlib.Omega.{arith}
 use lib.ListN.{get_or}
 use Rattle.json_theorems.proofs.Strings.{count_1, count_3, count_4}

@@ -1,5 +1,3 @@
-use mathlib.Core.Bool.{true, false}
-use Prim.Native.Nat.{◌-◌}
 use Rattle.json_scan.proofs.Scanning as laws
 use Rattle.json_scan.proofs.unit_at.Goals as goal
 

@@ -1,5 +1,4 @@
 -- src/lib.rt:25:9
-use Prim.Native.Nat.{◌-◌, ◌/◌}
 use native.Mathlib.Omega.{arith}
 use Rattle.json_strings.proofs.Storing as laws
 use Rattle.json_strings.proofs.push.Goals as goal

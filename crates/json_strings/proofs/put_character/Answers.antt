@@ -1,8 +1,5 @@
 -- src/lib.rt:111:8
-use mathlib.Core.Bool.{true, false}
-use Prim.Native.Nat.{◌-◌, ◌/◌}
 use native.Mathlib.Omega.{arith}
-use Rattle.definitions.specs.Json.{short_escape}
 use Rattle.json_strings.proofs.Storing as laws
 use Rattle.json_strings.proofs.put_character.Goals as goal
 

@@ -1,6 +1,4 @@
 -- src/lib.rt:42:23
-use mathlib.Core.Bool.{true, false}
-use Prim.Native.Nat.{◌-◌, ◌/◌}
 use Rattle.json_strings.proofs.Storing as laws
 use Rattle.json_strings.proofs.put_utf8.Goals as goal
 

@@ -1,6 +1,4 @@
 -- src/lib.rt:68:9
-use mathlib.Core.Bool.{true, false}
-use Prim.Native.Nat.{◌-◌, ◌/◌}
 use borrow.Author.Tests.{eq-eqb, ne_eqb}
 use Rattle.definitions.specs.Json.{short_escape}
 use Rattle.json_strings.proofs.short_escape.Goals as goal

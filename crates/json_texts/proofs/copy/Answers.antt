@@ -1,6 +1,5 @@
 -- `copy` meets its contract: after each turn one more byte is copied.
 use native.Mathlib.Omega.{arith}
-use Prim.Native.Nat.{◌-◌}
 use Rattle.json_texts.proofs.Copied as laws
 use Rattle.json_texts.proofs.copy.Goals as goal
 

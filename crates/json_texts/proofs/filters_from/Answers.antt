@@ -2,7 +2,6 @@
 use Rattle.json_scan.proofs.Telling.{told_inside}
 use mathlib.Core.Path.{◌∙◌}
 use native.Mathlib.Omega.{arith}
-use Prim.Native.Nat.{◌-◌}
 use borrow.Author.Tests.{not-true, not-false}
 use Rattle.json_texts.proofs.Filters.{lent_still}
 use Rattle.json_texts.proofs.Reading as laws

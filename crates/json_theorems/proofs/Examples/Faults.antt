@@ -1,16 +1,15 @@
 -- Texts with a fault of each kind, by computation: which number the reader answers, and at which byte. The place is where a ¶ stood when this was made.
-use Prim.Native.Nat.{ℕ, zero, suc, ◌+◌, ◌-◌, ◌*◌}
+use Prim.Native.Nat.{ℕ}
 use Prim.Native.Char.{code}
 use Prim.Native.String.{String, [] as end, ◌∷◌ as ◌then◌}
 use mathlib.Core.Path.{◌≡◌, refl}
-use mathlib.Core.Bool.{Bool, true, false, cond, not, ◌&&◌, ◌||◌}
+use mathlib.Core.Bool.{Bool, true, ◌&&◌}
 use mathlib.Core.List.{List, [], ◌∷◌, ◌++◌}
-use mathlib.Core.Option.{Option, none, some}
 use lib.Dec.{eqb}
 use Rattle.definitions.specs.Json.{ascii, all, is_blank, is_unescaped, short_escape, hex_digit, hex4, utf8}
 use Rattle.definitions.specs.JsonForm.{same, decimal}
 use Rattle.definitions.specs.CallNames.{Slot, number_for}
-use Rattle.definitions.specs.JsonReader.{Got, got, stop, blanks, byte_count, plain_piece, pair_piece, escape_piece, character, characters, string_at, digit_count, number_count, key_at, fields, object_at, items, array_at, apart, literal_at, bad_number, bad_character, plain_bad, escape_bad, is_second}
+use Rattle.definitions.specs.JsonReader.{blanks, byte_count, plain_piece, pair_piece, escape_piece, character, characters, string_at, digit_count, number_count, key_at, fields, object_at, items, array_at, apart, literal_at, bad_number, bad_character, plain_bad, escape_bad, is_second}
 use Rattle.definitions.specs.FormReader.{object_there, array_there, string_there, number_there, wrong}
 use Rattle.definitions.specs.FormReader.{Told, told, read_filters, whole, filters_there, filter_there, line_there, condition_there, keyed_there, one_there, either_there, null_or, list_there, word_there, natural_there, judged, action_there, operator_there}
 

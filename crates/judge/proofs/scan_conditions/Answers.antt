@@ -1,6 +1,5 @@
 -- `scan_conditions` meets its contract. The loop's invariant: what is left, told from here on top of what was found so far, is the whole.
 use mathlib.Core.Path.{ap, sym, ◌∙◌}
-use Prim.Native.Nat.{◌-◌}
 use native.Mathlib.Omega.{arith}
 use borrow.Author.Tests.{not-true, not-false}
 use Rattle.judge.specs.Walk.{tell_condition, scan_of}

@@ -1,6 +1,5 @@
 -- `scan_plain` meets its contract. The loop's invariant: what is left, told from here on top of what was found so far, is the whole.
 use mathlib.Core.Path.{◌≡◌, refl, sym, ◌∙◌}
-use Prim.Native.Nat.{◌-◌}
 use native.Mathlib.Omega.{arith}
 use borrow.Author.Tests.{eq-eqb, ne_eqb}
 use Rattle.judge.proofs.Walk.{plain_room, plain_turn, plain_passed, run_step}

@@ -1,7 +1,6 @@
 -- `follow` meets its contract. The loop's invariant: what is left, followed from here with the count so far, is the whole.
 use mathlib.Core.Path.{refl, sym, ◌∙◌}
 use native.Mathlib.Omega.{arith}
-use Prim.Native.Nat.{◌-◌}
 use Rattle.definitions.specs.Machine.{call_of}
 use Rattle.machine.proofs.Steps.{follow_start, follow_next, follow_returns, follow_stuck, follow_end}
 use Rattle.machine.proofs.follow.Goals as goal

@@ -1,6 +1,5 @@
 -- `find_set` meets its contract: from each place on the walk comes to what the whole walk comes to.
 use mathlib.Core.Path.{sym, ◌∙◌}
-use Prim.Native.Nat.{◌-◌}
 use native.Mathlib.Omega.{arith}
 use Rattle.named_sets.proofs.Naming as naming
 use Rattle.named_sets.proofs.find_set.Goals as goal

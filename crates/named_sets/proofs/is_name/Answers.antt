@@ -1,6 +1,5 @@
 -- `is_name` meets its contract: what is left of the name and of the bytes decides.
 use mathlib.Core.Path.{sym, ◌∙◌}
-use Prim.Native.Nat.{◌-◌}
 use native.Mathlib.Omega.{arith}
 use Rattle.named_sets.proofs.Naming as naming
 use Rattle.named_sets.proofs.is_name.Goals as goal

@@ -1,6 +1,6 @@
 -- `rules_length` meets its contract. The loop's invariant: the count and what is left make up the bodies, and both end at one place.
 use mathlib.Core.Path.{◌≡◌}
-use Prim.Native.Nat.{ℕ, ◌+◌, ◌*◌, ◌-◌, ◌≤◌}
+use Prim.Native.Nat.{ℕ, ◌+◌, ◌*◌, ◌≤◌}
 use lib.ListN.{length}
 use Rattle.definitions.specs.Emitted.{rule_bodies}
 use Rattle.set_view.specs.Parts.{rules_here, rules_past}
