@@ -1,19 +1,17 @@
 -- What the contracts of the exported functions give the program, call by call.
-use mathlib.Core.Path.{◌≡◌, refl, sym, ◌∙◌}
-use mathlib.Core.Bool.{Bool, true, false}
+use mathlib.Core.Path.{◌≡◌, refl}
+use mathlib.Core.Bool.{Bool}
 use mathlib.Core.List.{List, [], ◌∷◌}
 use mathlib.Core.Option.{some}
 use Prim.Native.Nat.{ℕ, ◌+◌, ◌*◌, ◌≤◌, ◌<◌}
 use native.Mathlib.Omega.{arith}
-use lib.ListN.{length, take, length-append}
+use lib.ListN.{length, length-append}
 use borrow.Author.Tests.{eq-eqb}
 use Rattle.definitions.specs.declared.Condition.{Condition}
 use Rattle.definitions.specs.declared.Answer.{Answer}
 use Rattle.definitions.specs.declared.Writer.{Writer}
 use Rattle.definitions.specs.declared.Cursor.{Cursor}
-use Rattle.definitions.specs.Machine.{filter_bytes}
 use Rattle.definitions.specs.RuleSet.{Rule, Entry, RuleSet}
-use Rattle.definitions.specs.Emitted.{emitted}
 use Rattle.definitions.specs.Format.{joined, encode_condition, encode_rule, encode_entry}
 use Rattle.definitions.specs.Compiled.{FormOf, Compiled}
 use Rattle.definitions.specs.Parts.{with_rule, with_condition, condition_of, condition_part}
@@ -25,10 +23,6 @@ use Rattle.theorems.specs.Outputs.{list}
 use Rattle.theorems.proofs.Outputs.{compiles_in}
 use Rattle.readers.proofs.Back.{left_long, head_back, entry_back, rule_back, condition_back, all_read}
 use Rattle.example.specs.Worked.{Wrote, Ahead, Walked}
-
--- a no promises nothing
-pub never : {P : Type 0} → false ≡ true → P
-never h = absurd (let z : ◌≡◌ {A = ℕ} 0 1 = cc in omega arith)
 
 -- ---- writing
 
@@ -49,10 +43,6 @@ rule_added index width operator value mask first taken second q named rs held z 
 pub compiled_room : (set before after : List ℕ) (r : Answer) → Compiled set before after r → r.code ≡ 0 → 8 * r.count ≤ length before
 unfolding answer
 compiled_room set before after r c z = let w = compiles_in list set (length before) r c.answer z in rw w.1.said w.1.fits
-
-pub compiled_stored : (set before after stored : List ℕ) (r : Answer) → Compiled set before after r → r.code ≡ 0 → take (8 * r.count) after ≡ stored
-    → (rs : RuleSet) → FormOf rs set → filter_bytes (emitted rs) ≡ stored
-compiled_stored set before after stored r c z same rs form = sym (c.same z rs form) ∙ rw (eq-eqb r.code 0 z) same
 
 -- ---- reading
 
@@ -129,7 +119,3 @@ entry_walked s c no_condition_lem no-rule ahead = go ahead.0 ahead.1 ahead.2 ahe
         let before = simp (length-append, length_entry) at (stands s c [] [] (e ∷ es) l) in
         let after = stands s _ [] e.rules es g.left in
         went s c _ ([], e.rules, es, g.left) g.code (omega arith)
-
--- the loop went as often as there are bytes
-pub all_walked : (s : List ℕ) (c : Cursor) (n : ℕ) → length s ≤ n → n ≤ c.at → Ahead s c → c.at ≡ length s
-all_walked s c n h k ahead = omega (arith, ahead.3.inside)

@@ -11,20 +11,13 @@ ghost use Rattle.definitions.specs.Parts.{with_entry};
 ghost use Rattle.example.specs.Worked.{worked, begun, Wrote, Adds, AddsRule, Ahead, Walked, Stored};
 
 use definitions::{Compared, Cursor, Head, Listed, Writer};
-use libc::STDOUT_FILENO;
+use std::fmt::Display;
+use std::io;
 
-fn say(words: &[u8]) {
-    io::write_all(STDOUT_FILENO, words);
-}
-
-fn say_number(words: &[u8], number: u64) {
-    say(words);
-    io::print_decimal(STDOUT_FILENO, number);
-}
-
-fn say_line(words: &[u8], number: u64) {
-    say_number(words, number);
-    say(b"\n");
+// Says a line. One that cannot be written is let go, so that no promise below depends on who listens; the last line is `main`'s, and its
+// status tells whether that was written.
+fn say(rt: &impl Print, line: impl Display + Drop) {
+    let _ = rt.println(line);
 }
 
 // ---- the set, written part by part. Once a call was refused, nothing more is written.
@@ -79,72 +72,80 @@ fn build(out: &mut [u8]) -> Writer
 
 // ---- the set, read part by part
 
-fn say_head(head: Head) {
+fn say_head(rt: &impl Print, head: Head) {
     if head.next.code != 0 {
         return;
     }
-    say_number(b"architecture ", head.architecture as u64);
-    say_number(b", mismatch ", head.mismatch as u64);
-    say_number(b", match ", head.on_match as u64);
-    say_line(b", calls ", head.next.entries as u64);
+    say(
+        rt,
+        format_args!(
+            "architecture {}, mismatch {}, match {}, calls {}",
+            head.architecture, head.mismatch, head.on_match, head.next.entries
+        ),
+    );
 }
 
-fn say_call(listed: Listed) {
+fn say_call(rt: &impl Print, listed: Listed) {
     if listed.next.code != 0 {
         return;
     }
-    say_number(b"call ", listed.number as u64);
-    say_line(b", rules ", listed.next.rules as u64);
+    say(
+        rt,
+        format_args!("call {}, rules {}", listed.number, listed.next.rules),
+    );
 }
 
-fn say_rule(rule: Cursor) {
+fn say_rule(rt: &impl Print, rule: Cursor) {
     if rule.code != 0 {
         return;
     }
-    say_line(b"  rule, conditions ", rule.conditions as u64);
+    say(rt, format_args!("  rule, conditions {}", rule.conditions));
 }
 
-fn say_condition(compared: Compared) {
+fn say_condition(rt: &impl Print, compared: Compared) {
     if compared.next.code != 0 {
         return;
     }
-    say_number(b"    argument ", compared.index as u64);
-    say_number(b", width ", compared.width as u64);
-    say_number(b", operator ", compared.operator as u64);
-    say_number(b", value ", compared.value);
-    say_line(b", mask ", compared.mask);
+    say(
+        rt,
+        format_args!(
+            "    argument {}, width {}, operator {}, value {}, mask {}",
+            compared.index, compared.width, compared.operator, compared.value, compared.mask
+        ),
+    );
 }
 
 // Reads the part that is next, whichever it is.
-fn next_part(set: &[u8], cursor: Cursor) -> Cursor
+#[tactic(auto, using(crate::proofs::Calls::condition_walked, crate::proofs::Calls::rule_walked, crate::proofs::Calls::entry_walked))]
+fn next_part(rt: &impl Print, set: &[u8], cursor: Cursor) -> Cursor
     ensures { Ahead set.now cursor → Walked set.now cursor result }
 {
     if cursor.conditions != 0 {
         let compared = callfilter::callfilter_next_condition(set, cursor);
-        say_condition(compared);
+        say_condition(rt, compared);
         let next = compared.next;
         return next;
     }
     if cursor.rules != 0 {
         let next = callfilter::callfilter_next_rule(set, cursor);
-        say_rule(next);
+        say_rule(rt, next);
         return next;
     }
     let listed = callfilter::callfilter_next_entry(set, cursor);
-    say_call(listed);
+    say_call(rt, listed);
     let next = listed.next;
     next
 }
 
 // Reads a set to its end. A part has at least a byte, so that there are no more parts than bytes.
-fn walk(set: &[u8]) -> Cursor
+fn walk(rt: &impl Print, set: &[u8]) -> Cursor
     ensures { (rs : RuleSet) → FormOf rs set.now → result.at ≡ length set.now }
 {
     let head = callfilter::callfilter_read_head(set);
-    say_head(head);
+    say_head(rt, head);
     let mut cursor = head.next;
     for _ in 0..set.len() {
-        cursor = next_part(set, cursor);
+        cursor = next_part(rt, set, cursor);
         if cursor.code != 0 {
             return cursor;
         }
@@ -155,47 +156,50 @@ fn walk(set: &[u8]) -> Cursor
 // ---- compiled, and compared
 
 // Whether a set compiles into the stored filter.
-fn compiles(set: &[u8], out: &mut [u8], stored: &[u8]) -> bool
+fn compiles(rt: &impl Print, set: &[u8], out: &mut [u8], stored: &[u8]) -> bool
     ensures { result ≡ true → (rs : RuleSet) → FormOf rs set.now → filter_bytes (filters.emitted rs) ≡ stored.now }
 {
     let answer = callfilter::callfilter_compile(set, out);
     if answer.code != 0 {
-        say_line(b"not compiled, answer ", answer.code as u64);
+        say(rt, format_args!("not compiled, answer {}", answer.code));
         return false;
     }
-    say_line(b"compiled, instructions ", answer.count as u64);
+    say(rt, format_args!("compiled, instructions {}", answer.count));
     let size = 8 * answer.count as usize;
     check::same(&out[..size], stored)
 }
 
 // Whether a set and its filter are the stored ones.
-fn as_stored(set: &[u8], out: &mut [u8], form: &[u8], emitted: &[u8]) -> bool
+fn as_stored(rt: &impl Print, set: &[u8], out: &mut [u8], form: &[u8], emitted: &[u8]) -> bool
     ensures { result ≡ true → (rs : RuleSet) → FormOf rs set.now → Stored rs form.now emitted.now }
 {
     if !check::same(set, form) {
-        say(b"the writers gave another set than the stored one\n");
+        say(rt, "the writers gave another set than the stored one");
         return false;
     }
-    say_line(b"the writers gave the stored set, bytes ", set.len() as u64);
-    let end = walk(set);
-    say_line(b"read back, bytes ", end.at as u64);
-    compiles(set, out, emitted)
+    say(
+        rt,
+        format_args!("the writers gave the stored set, bytes {}", set.len()),
+    );
+    let end = walk(rt, set);
+    say(rt, format_args!("read back, bytes {}", end.at));
+    compiles(rt, set, out, emitted)
 }
 
 // Builds and compiles the worked set; a yes says that the stored bytes are those of the definitions.
-fn tried(space: &mut [u8], out: &mut [u8], form: &[u8], emitted: &[u8]) -> bool
+fn tried(rt: &impl Print, space: &mut [u8], out: &mut [u8], form: &[u8], emitted: &[u8]) -> bool
     ensures { result ≡ true → Stored worked form.now emitted.now }
 {
     let writer = build(space);
     if writer.code != 0 {
-        say_line(b"a writer refused, code ", writer.code as u64);
+        say(rt, format_args!("a writer refused, code {}", writer.code));
         return false;
     }
     let size = writer.end as usize;
-    as_stored(&space[..size], out, form, emitted)
+    as_stored(rt, &space[..size], out, form, emitted)
 }
 
-fn main() {
+fn main(rt: HostRuntime) -> io::Result<()> {
     let mut space = [0u8; 256];
     let mut out = [0u8; 512];
     let form = b"\x01\x00\x00\x00\x01\x00\x05\x00\x00\x00\xff\x7f\x03\x00\x00\x00\
@@ -219,9 +223,9 @@ fn main() {
           \x05\x00\x00\x00\x07\x00\x00\x00\x20\x00\x00\x00\x1c\x00\x00\x00\x25\x00\x03\x00\x01\x00\x00\x00\
           \x15\x00\x00\x03\x01\x00\x00\x00\x20\x00\x00\x00\x18\x00\x00\x00\x35\x00\x00\x01\x00\x00\x00\x00\
           \x06\x00\x00\x00\x00\x00\xff\x7f\x06\x00\x00\x00\x01\x00\x05\x00\x06\x00\x00\x00\x01\x00\x05\x00";
-    if tried(&mut space, &mut out, form, emitted) {
-        say(b"the filter is the stored one\n");
+    if tried(&rt, &mut space, &mut out, form, emitted) {
+        println!(rt; "the filter is the stored one")
     } else {
-        say(b"not as stored\n");
+        println!(rt; "not as stored")
     }
 }

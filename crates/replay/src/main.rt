@@ -6,7 +6,8 @@ ghost use Rattle.std.specs.Prelude.{◌≡◌, true, ◌≤◌, length};
 ghost use Rattle.replay.specs.Pattern as patterns;
 
 use definitions::Answer;
-use libc::{STDIN_FILENO, STDOUT_FILENO};
+use std::io;
+use std::io::Read;
 
 // No vector has a larger set, filter or room: one that does is taken as cut short.
 const LARGEST_SET: usize = 65536;
@@ -96,14 +97,13 @@ fn holds(set: &[u8], filter: &[u8], wanted: Answer, out: &mut [u8]) -> bool
 }
 
 // Reads so many bytes to the start of a space, and answers whether it has room for them and they came.
-fn fetch(space: &mut [u8], count: usize) -> bool
+fn fetch(input: &mut impl Read, space: &mut [u8], count: usize) -> bool
     ensures { result ≡ true → count ≤ length space.new }
 {
     if space.len() < count {
         return false;
     }
-    let came = io::read_full(STDIN_FILENO, &mut space[..count]);
-    came == count
+    input.read_exact(&mut space[..count]).is_ok()
 }
 
 // The answer that a vector's first numbers tell.
@@ -118,15 +118,21 @@ fn told(head: &[u8; 36]) -> Answer {
 }
 
 // Reads a vector behind its first numbers, and tries it.
-fn vector(head: &[u8; 36], sets: &mut [u8], filters: &mut [u8], outs: &mut [u8]) -> Record {
+fn vector(
+    input: &mut impl Read,
+    head: &[u8; 36],
+    sets: &mut [u8],
+    filters: &mut [u8],
+    outs: &mut [u8],
+) -> Record {
     let set_size = bpf::u32_at(head, 4) as usize;
     let room = bpf::u32_at(head, 8) as usize;
     let wanted = told(head);
     let filter_size = bpf::u32_at(head, 32) as usize;
-    if !fetch(sets, set_size) {
+    if !fetch(input, sets, set_size) {
         return Record::Cut;
     }
-    if !fetch(filters, filter_size) {
+    if !fetch(input, filters, filter_size) {
         return Record::Cut;
     }
     if outs.len() < room {
@@ -146,17 +152,18 @@ fn vector(head: &[u8; 36], sets: &mut [u8], filters: &mut [u8], outs: &mut [u8])
 
 // Reads the next record. The spaces are arrays here, so that their lengths need no proof in the loop that lends them.
 fn next(
+    input: &mut impl Read,
     sets: &mut [u8; LARGEST_SET],
     filters: &mut [u8; LARGEST_FILTER],
     outs: &mut [u8; LARGEST_ROOM],
 ) -> Record {
     let mut head = [0u8; 36];
-    if !fetch(&mut head, 36) {
+    if !fetch(input, &mut head, 36) {
         return Record::Cut;
     }
     let what = bpf::u32_at(&head, 0);
     if what == 0 {
-        return vector(&head, sets, filters, outs);
+        return vector(input, &head, sets, filters, outs);
     }
     if what == 2 {
         return Record::End;
@@ -165,33 +172,32 @@ fn next(
         return Record::Cut;
     }
     let size = bpf::u32_at(&head, 4) as usize;
-    if fetch(sets, size) {
+    if fetch(input, sets, size) {
         Record::Kind(size)
     } else {
         Record::Cut
     }
 }
 
-fn write_name(sets: &[u8; LARGEST_SET], size: usize) {
+fn write_name(rt: &impl Print, sets: &[u8; LARGEST_SET], size: usize) -> io::Result<()> {
     let name: &[u8] = sets;
     if size <= name.len() {
-        io::write_all(STDOUT_FILENO, &name[..size]);
-        io::write_all(STDOUT_FILENO, b": ");
+        rt.write_all(&name[..size])?;
+        rt.print(": ")?;
     }
+    Ok(())
 }
 
-fn write_counts(passed: u64, failed: u64) {
-    io::print_decimal(STDOUT_FILENO, passed);
-    io::write_all(STDOUT_FILENO, b" passed, ");
-    io::print_decimal(STDOUT_FILENO, failed);
-    io::write_all(STDOUT_FILENO, b" failed\n");
+fn write_counts(rt: &impl Print, passed: u64, failed: u64) -> io::Result<()> {
+    println!(rt; "{passed} passed, {failed} failed")
 }
 
-fn write_cut() {
-    io::write_all(STDOUT_FILENO, b"the vectors are cut short\n");
+fn write_cut(rt: &impl Print) -> io::Result<()> {
+    println!(rt; "the vectors are cut short")
 }
 
-fn main() {
+fn main(rt: HostRuntime) -> io::Result<()> {
+    let mut input = rt.stdin();
     let mut sets = [0u8; LARGEST_SET];
     let mut filters = [0u8; LARGEST_FILTER];
     let mut outs = [0u8; LARGEST_ROOM];
@@ -202,7 +208,7 @@ fn main() {
     let mut all_failed: u64 = 0;
     // Nothing says that an input ends and the loop has to, so it has more turns than there are records.
     for _ in 0u64..1000000 {
-        let record = next(&mut sets, &mut filters, &mut outs);
+        let record = next(&mut input, &mut sets, &mut filters, &mut outs);
         match record {
             Record::Passed => {
                 passed += 1;
@@ -214,22 +220,21 @@ fn main() {
             }
             Record::Kind(size) => {
                 if started {
-                    write_counts(passed, failed);
+                    write_counts(&rt, passed, failed)?;
                 }
                 started = true;
                 passed = 0;
                 failed = 0;
-                write_name(&sets, size);
+                write_name(&rt, &sets, size)?;
             }
             Record::End => {
-                write_counts(passed, failed);
-                write_counts(all_passed, all_failed);
-                return;
+                write_counts(&rt, passed, failed)?;
+                return write_counts(&rt, all_passed, all_failed);
             }
             Record::Cut => {
                 break;
             }
         }
     }
-    write_cut();
+    write_cut(&rt)
 }

@@ -1,11 +1,6 @@
--- `main` is safe and ends: no count is above the number of turns.
-use Prim.Native.Nat.{◌≤◌, ◌-◌}
+-- `main` is safe: no count is above the number of turns.
+use Rattle.std.proofs.Common.{◌≤◌}
 use Rattle.replay.proofs.main.Given as goal
 
 abbrev pub invariant-loop : goal.invariant-loop
-invariant-loop l =
-    (l.passed ≤ l.counter) × (l.failed ≤ l.counter) × (l.all_passed ≤ l.counter) × (l.all_failed ≤ l.counter) × (l.counter ≤ 1000000)
-
-abbrev pub decreases-loop : goal.decreases-loop
-decreases-loop l =
-    1000000 - l.counter
+invariant-loop l = (l.passed ≤ l.counter) × (l.failed ≤ l.counter) × (l.all_passed ≤ l.counter) × (l.all_failed ≤ l.counter)

@@ -1,7 +1,5 @@
 -- `untouched` meets its contract: each byte that the loop passed is the pattern's.
-use Prim.Native.Nat.{ℕ, ◌≤◌, ◌<◌, ◌-◌}
-use mathlib.Core.Path.{◌≡◌}
-use lib.ListN.{length, get_or}
+use Rattle.std.proofs.Common.{ℕ, ◌≡◌, ◌-◌, ◌≤◌, ◌<◌, length, get_or}
 use Rattle.replay.specs.Pattern.{pattern_at}
 use Rattle.replay.proofs.untouched.Given as goal
 
