@@ -146,12 +146,7 @@ pub fn callfilter_decide(set: &[u8], call: &[u8]) -> Decision
 }
 
 // Starts a set in a lent buffer: nothing is listed in it yet.
-pub fn callfilter_start(
-    out: &mut [u8],
-    architecture: u32,
-    mismatch: u32,
-    on_match: u32,
-) -> Writer
+pub fn callfilter_start(out: &mut [u8], architecture: u32, mismatch: u32, on_match: u32) -> Writer
     ensures { Started architecture mismatch on_match out.old out.new result }
 {
     writers::start(out, architecture, mismatch, on_match)

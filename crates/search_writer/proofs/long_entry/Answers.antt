@@ -1,7 +1,7 @@
 -- `long_entry` meets its contract. The loop's invariant: what is left of the halving, from here on, is the whole.
 use mathlib.Core.Path.{◌≡◌, refl, sym, ◌∙◌}
 use mathlib.Core.Bool.{Bool, true, false, cond}
-use Prim.Native.Nat.{ℕ, ◌+◌, ◌/◌, ◌≤◌}
+use Prim.Native.Nat.{◌+◌, ◌/◌, ◌≤◌}
 use native.Mathlib.Omega.{arith}
 use Rattle.search_writer.proofs.Turning.{half_width, halved_turn, halved_end}
 use Rattle.search_writer.proofs.long_entry.Invariants.{short_by}
