@@ -9,27 +9,27 @@ returns-then-fault-eq1 c = c.answer_for.ensures ∙ sym (search_none _ _ c.judge
 
 pub u32_at-requires : goal.u32_at-requires
 u32_at-requires c =
-    let a = search_answer _ c.args.room c.judge.result c.judge.ensures.0 c.if-fault-eq1.false in
-    omega (arith, a.reads.head)
+    let head = search_answer _ c.args.room c.judge.result c.judge.ensures.0 c.if-fault-eq1.false in
+    omega (arith, head.reads.head)
 
 pub search_length-size-requires : goal.search_length-size-requires
 search_length-size-requires c =
-    let a = search_answer _ c.args.room c.judge.result c.judge.ensures.0 c.if-fault-eq1.false in
-    (a.reads, omega (arith, c.u32_at.ensures))
+    let length = search_answer _ c.args.room c.judge.result c.judge.ensures.0 c.if-fault-eq1.false in
+    (length.reads, omega (arith, c.u32_at.ensures))
 
 pub search_long-requires : goal.search_long-requires
 search_long-requires c =
-    let a = search_answer _ c.args.room c.judge.result c.judge.ensures.0 c.if-fault-eq1.false in
-    (a.reads, search_size_lem _ _ _ c.u32_at.ensures c.search_length-size.ensures)
+    let long = search_answer _ c.args.room c.judge.result c.judge.ensures.0 c.if-fault-eq1.false in
+    (long.reads, search_size_lem _ _ _ c.u32_at.ensures c.search_length-size.ensures)
 
 pub answer_for-requires-2 : goal.answer_for-requires-2
 answer_for-requires-2 c =
-    let a = search_answer _ c.args.room c.judge.result c.judge.ensures.0 c.if-fault-eq1.false in
+    let answer = search_answer _ c.args.room c.judge.result c.judge.ensures.0 c.if-fault-eq1.false in
     let size = search_size_lem c.args.set.now _ _ c.u32_at.ensures c.search_length-size.ensures in
-    omega (arith, size, a.small, c.judge.ensures.1)
+    omega (arith, size, answer.small, c.judge.ensures.1)
 
 pub returns : goal.returns
 returns c =
-    let a = search_answer _ c.args.room c.judge.result c.judge.ensures.0 c.if-fault-eq1.false in
+    let whole = search_answer _ c.args.room c.judge.result c.judge.ensures.0 c.if-fault-eq1.false in
     let size = search_size_lem c.args.set.now _ _ c.u32_at.ensures c.search_length-size.ensures in
-    c.answer_for-2.ensures ∙ rw size (sym (a.said c.search_long.result (rw size at c.search_long.ensures)))
+    c.answer_for-2.ensures ∙ rw size (sym (whole.said c.search_long.result (rw size at c.search_long.ensures)))

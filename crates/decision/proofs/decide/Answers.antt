@@ -21,5 +21,5 @@ meaning-requires c =
 
 pub returns : goal.returns
 returns c =
-    let d = decides c.args.set.now c.args.call.now c.judge.result c.if-call-ne64.false c.judge.ensures.0 c.if-found-ne0.false in
-    c.decided-2.ensures ∙ ap (decided c.judge.result.fault) c.meaning.ensures ∙ sym d.1
+    let meant = decides c.args.set.now c.args.call.now c.judge.result c.if-call-ne64.false c.judge.ensures.0 c.if-found-ne0.false in
+    c.decided-2.ensures ∙ ap (decided c.judge.result.fault) c.meaning.ensures ∙ sym meant.1
