@@ -126,6 +126,21 @@ def version(tally):
     tally.check("each licence that the crate names is there", len(licences) == 2 and not missing, missing)
 
 
+def clauses(crate):
+    """What each public function of a crate asks and promises, word for word."""
+    text = re.sub(r"(?m)^\s*//.*$", "", (ROOT / "crates" / crate / "src" / "lib.rt").read_text())
+    found = re.findall(r'(?m)^pub (?:extern "C" )?fn (\w+)\(([^{]*?)\n((?:    (?:requires|ensures).*\n(?:        .*\n)*)*)\{', text)
+    return {name: (re.sub(r"\s+|,(?=\s*\))", "", taken), promised.split()) for name, taken, promised in found}
+
+
+def same_promises(tally):
+    """The archive's functions and the library's are written down twice: neither may come to say less than the other."""
+    library, exported = clauses("callfilter"), clauses("callfilter_c")
+    promising = all(promised for _, promised in exported.values())
+    differing = [name for name in {*library, *exported} if library.get(name) != exported.get(name)]
+    tally.check("the archive's functions promise what the library's do", exported and promising and not differing, f"{sorted(differing)}")
+
+
 def another_interface():
     """The archive as one of another binary interface would be, and the name that it does not have: that by which its version is asked."""
     [name] = set(re.findall(r"\bcallfilter_abi_\d+", HEADER.read_text()))
@@ -258,6 +273,7 @@ def main():
     header(tally)
     wrong_uses(tally)
     version(tally)
+    same_promises(tally)
     header_kept_apart(tally)
     if shutil.which("rustc") is None:
         tally.skip("the crate and the demo", "rustc is not there")
