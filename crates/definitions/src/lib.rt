@@ -3,7 +3,7 @@
 #![tactic(auto)]
 
 // An instruction of classic BPF: struct sock_filter of linux/filter.h.
-#[derive(Clone, Copy)]
+#[derive(Clone, Copy, Debug, PartialEq, Eq)]
 pub struct Instruction {
     pub code: u16,
     pub jt: u8,
@@ -12,7 +12,7 @@ pub struct Instruction {
 }
 
 // How an argument of a call is compared with a value.
-#[derive(Clone, Copy)]
+#[derive(Clone, Copy, Debug, PartialEq, Eq)]
 pub enum Operator {
     Eq,
     Ge,
@@ -24,14 +24,14 @@ pub enum Operator {
 }
 
 // How much of an argument is compared: its low 32 bits, or all 64.
-#[derive(Clone, Copy)]
+#[derive(Clone, Copy, Debug, PartialEq, Eq)]
 pub enum Width {
     Dword,
     Qword,
 }
 
 // One comparison of an argument. The mask is 0 unless the operator is masked eq.
-#[derive(Clone, Copy)]
+#[derive(Clone, Copy, Debug, PartialEq, Eq)]
 pub struct Condition {
     pub index: u8,
     pub width: Width,
@@ -42,7 +42,7 @@ pub struct Condition {
 
 // What is wrong, and where: the number of the answer, 0 for nothing; the entry, the rule of the entry and the condition of the rule,
 // counted from 0, ffffffff where a number does not apply.
-#[derive(Clone, Copy)]
+#[derive(Clone, Copy, Debug, PartialEq, Eq)]
 pub struct Fault {
     pub code: u32,
     pub entry: u32,
@@ -52,7 +52,7 @@ pub struct Fault {
 
 // What compiling answers: a number that says what became of it, how many instructions the filter has, and where the fault is.
 #[repr(C)]
-#[derive(Clone, Copy)]
+#[derive(Clone, Copy, Debug, PartialEq, Eq)]
 pub struct Answer {
     pub code: u32,
     pub count: u32,
@@ -64,7 +64,7 @@ pub struct Answer {
 // What asking a filter about a call answers: 0 with the action and the number of instructions executed, 1 for a filter that the kernel
 // would not take, 9 for a call that is not 64 bytes.
 #[repr(C)]
-#[derive(Clone, Copy)]
+#[derive(Clone, Copy, Debug, PartialEq, Eq)]
 pub struct Outcome {
     pub code: u32,
     pub action: u32,
@@ -74,7 +74,7 @@ pub struct Outcome {
 // What asking a rule set about a call answers: 0 with the action, the answer 1 to 5 or 8 that compiling gives, with the place of its
 // fault, or 9 for a call that is not 64 bytes.
 #[repr(C)]
-#[derive(Clone, Copy)]
+#[derive(Clone, Copy, Debug, PartialEq, Eq)]
 pub struct Decision {
     pub code: u32,
     pub action: u32,
@@ -86,7 +86,7 @@ pub struct Decision {
 // What stands between two calls that write a set: what became of the last one (0: it was taken), how many bytes are written, and the
 // places of the open entry and of the open rule (0: there is none).
 #[repr(C)]
-#[derive(Clone, Copy)]
+#[derive(Clone, Copy, Debug, PartialEq, Eq)]
 pub struct Writer {
     pub code: u32,
     pub end: u32,
@@ -97,7 +97,7 @@ pub struct Writer {
 // What stands between two calls that read a set: what became of the last one (0: it gave a part), the place of the next part, and how
 // many entries, rules of the open entry and conditions of the open rule are left.
 #[repr(C)]
-#[derive(Clone, Copy)]
+#[derive(Clone, Copy, Debug, PartialEq, Eq)]
 pub struct Cursor {
     pub code: u32,
     pub at: u32,
@@ -108,7 +108,7 @@ pub struct Cursor {
 
 // What reading the head of a set gives.
 #[repr(C)]
-#[derive(Clone, Copy)]
+#[derive(Clone, Copy, Debug, PartialEq, Eq)]
 pub struct Head {
     pub next: Cursor,
     pub architecture: u32,
@@ -118,7 +118,7 @@ pub struct Head {
 
 // What reading an entry gives: the number that is listed.
 #[repr(C)]
-#[derive(Clone, Copy)]
+#[derive(Clone, Copy, Debug, PartialEq, Eq)]
 pub struct Listed {
     pub next: Cursor,
     pub number: u32,
@@ -126,7 +126,7 @@ pub struct Listed {
 
 // What reading a condition gives: its numbers, as the format has them.
 #[repr(C)]
-#[derive(Clone, Copy)]
+#[derive(Clone, Copy, Debug, PartialEq, Eq)]
 pub struct Compared {
     pub next: Cursor,
     pub index: u8,
@@ -139,7 +139,7 @@ pub struct Compared {
 // What reading a JSON text answers: a number that says what became of it, and where in the text the fault is (with 14 in the table). With 0
 // how many sets were written, and bytes; with 7 which buffer is too short (1: scratch, 2: the one for the sets), and what it needs.
 #[repr(C)]
-#[derive(Clone, Copy)]
+#[derive(Clone, Copy, Debug, PartialEq, Eq)]
 pub struct JsonAnswer {
     pub code: u32,
     pub at: u32,
@@ -150,7 +150,7 @@ pub struct JsonAnswer {
 // What walking through named sets gives: 0 with a named set's places and lengths and the place behind it, 1 for bytes that are not of the
 // form, 2 for no set. All places are offsets, and all numbers but the code are 0 where there is no set.
 #[repr(C)]
-#[derive(Clone, Copy)]
+#[derive(Clone, Copy, Debug, PartialEq, Eq)]
 pub struct NamedPlace {
     pub code: u32,
     pub name: u32,
