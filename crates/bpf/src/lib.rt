@@ -67,7 +67,7 @@ pub fn load(k: u32) -> Instruction
         code: 0x20,
         jt: 0,
         jf: 0,
-        k: k,
+        k,
     }
 }
 
@@ -78,7 +78,7 @@ pub fn mask_by(k: u32) -> Instruction
         code: 0x54,
         jt: 0,
         jf: 0,
-        k: k,
+        k,
     }
 }
 
@@ -89,7 +89,7 @@ pub fn jump_by(k: u32) -> Instruction
         code: 0x05,
         jt: 0,
         jf: 0,
-        k: k,
+        k,
     }
 }
 
@@ -100,7 +100,7 @@ pub fn if_equal(k: u32, t: u8, f: u8) -> Instruction
         code: 0x15,
         jt: t,
         jf: f,
-        k: k,
+        k,
     }
 }
 
@@ -111,7 +111,7 @@ pub fn if_any_bit(k: u32, t: u8, f: u8) -> Instruction
         code: 0x45,
         jt: t,
         jf: f,
-        k: k,
+        k,
     }
 }
 
@@ -122,7 +122,7 @@ pub fn if_greater(k: u32, t: u8, f: u8) -> Instruction
         code: 0x25,
         jt: t,
         jf: f,
-        k: k,
+        k,
     }
 }
 
@@ -133,7 +133,7 @@ pub fn if_at_least(k: u32, t: u8, f: u8) -> Instruction
         code: 0x35,
         jt: t,
         jf: f,
-        k: k,
+        k,
     }
 }
 
@@ -145,7 +145,7 @@ pub fn give(k: u32) -> Instruction
         code: 0x06,
         jt: 0,
         jf: 0,
-        k: k,
+        k,
     }
 }
 

@@ -3,6 +3,7 @@
 #![tactic(auto)]
 
 ghost use Rattle.std.specs.Prelude.{◌≡◌, ◌+◌, ◌*◌, ◌≤◌, length};
+ghost use Rattle.definitions.specs.Word.{number_at};
 ghost use Rattle.definitions.specs.RuleSet.{architecture_word, is_action};
 ghost use Rattle.definitions.specs.Format as format;
 ghost use Rattle.definitions.specs.Format.{architecture_of, width_of, is_there, condition_at};
@@ -112,6 +113,24 @@ pub fn condition_here(s: &[u8], at: usize) -> Condition
         operator: operator,
         value: value,
         mask: mask,
+    }
+}
+
+// What a filter returns: for a call that an entry matches, and for any other.
+#[derive(Clone, Copy, Debug, PartialEq, Eq)]
+pub struct Actions {
+    pub on_match: u32,
+    pub mismatch: u32,
+}
+
+// The actions in the head of a set.
+pub fn actions_here(s: &[u8]) -> Actions
+    requires { 16 ≤ length s.now }
+    ensures { result ≡ record { on_match = number_at 4 s.now 8; mismatch = number_at 4 s.now 4 } }
+{
+    Actions {
+        on_match: bpf::u32_at(s, 8),
+        mismatch: bpf::u32_at(s, 4),
     }
 }
 
