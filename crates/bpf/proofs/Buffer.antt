@@ -218,10 +218,6 @@ put_in_front l at next a b c e h = rw (put_2 l next b c h, put_first (place l ne
 pub write_begin : (out : List ℕ) (at : ℕ) (all : List Instruction) → Writing out at all out at all
 write_begin out at all = record { same = refl; spot = refl; long = refl }
 
-pub write_on : {out₀ : List ℕ} {at : ℕ} {all : List Instruction} {out : List ℕ} {pos : ℕ} {left : List Instruction} {out' : List ℕ} {pos' : ℕ} {left' : List Instruction}
-    → Writing out₀ at all out pos left → Writing out pos left out' pos' left' → Writing out₀ at all out' pos' left'
-write_on w v = record { same = v.same ∙ w.same; spot = v.spot ∙ w.spot; long = v.long ∙ w.long }
-
 pub write_turn : (out₀ : List ℕ) (at : ℕ) (all : List Instruction) (out : List ℕ) (pos : ℕ) (left a b : List Instruction) (out' : List ℕ) (pos' : ℕ)
     → at + 8 * length all ≤ length out₀ → Writing out₀ at all out pos left → left ≡ a ++ b
     → out' ≡ place out pos (filter_bytes a) → pos' ≡ pos + 8 * length a → length out' ≡ length out
@@ -277,10 +273,6 @@ pub record WritingBefore (out₀ : List ℕ) (end : ℕ) (all : List Instruction
   pub room : 8 * length left ≤ pos
   pub fits : pos ≤ length out
   pub long : length out ≡ length out₀
-
-pub before_begin : (out : List ℕ) (end : ℕ) (all : List Instruction) → 8 * length all ≤ end → end ≤ length out
-    → WritingBefore out end all out end all
-before_begin out end all r f = record { same = refl; room = r; fits = f; long = refl }
 
 pub before_turn : (out₀ : List ℕ) (end : ℕ) (all : List Instruction) (out : List ℕ) (pos : ℕ) (left a b : List Instruction) (out' : List ℕ) (pos' : ℕ)
     → WritingBefore out₀ end all out pos left → left ≡ a ++ b

@@ -2,7 +2,7 @@
 // Room and place are the caller's to show, so that nothing here is tested twice.
 #![tactic(auto)]
 
-ghost use Rattle.std.specs.Prelude.{◌≡◌, ◌+◌, ◌≤◌, ◌<◌, length};
+ghost use Rattle.std.specs.Prelude.{◌≡◌, ◌+◌, ◌≤◌, length};
 ghost use Rattle.definitions.specs.Word.{bytes_of, number_at};
 ghost use Rattle.definitions.specs.Machine.{instruction_bytes};
 ghost use Rattle.definitions.specs.Emitted as emitted;
@@ -10,26 +10,15 @@ ghost use Rattle.bpf.specs.Place.{place};
 
 use definitions::Instruction;
 
-// A byte as a wider number.
-pub fn wide(x: u8) -> u32
-    ensures { (result ≡ x) × (result < 256) }
-{
-    x as u32
-}
-
-// A number of four bytes as one of eight.
-fn long(x: u32) -> u64
-    ensures { (result ≡ x) × (result < 4294967296) }
-{
-    x as u64
-}
-
 // The number in the four bytes at a place.
 pub fn u32_at(s: &[u8], at: usize) -> u32
     requires { at + 4 ≤ length s.now }
     ensures { result ≡ number_at 4 s.now at }
 {
-    wide(s[at]) + 256 * wide(s[at + 1]) + 65536 * wide(s[at + 2]) + 16777216 * wide(s[at + 3])
+    u32::from(s[at])
+        + 256 * u32::from(s[at + 1])
+        + 65536 * u32::from(s[at + 2])
+        + 16777216 * u32::from(s[at + 3])
 }
 
 // The number in the eight bytes at a place.
@@ -37,7 +26,7 @@ pub fn u64_at(s: &[u8], at: usize) -> u64
     requires { at + 8 ≤ length s.now }
     ensures { result ≡ number_at 8 s.now at }
 {
-    long(u32_at(s, at)) + 4294967296 * long(u32_at(s, at + 4))
+    u64::from(u32_at(s, at)) + 4294967296 * u64::from(u32_at(s, at + 4))
 }
 
 // Writes the low four bytes of a number at a place, and leaves the rest as it was.

@@ -6,7 +6,6 @@ ghost use Rattle.std.specs.Prelude.{◌≡◌, true, false, not, eqb, ltb, ◌+�
 ghost use Rattle.std.proofs.Math.Option.{some};
 ghost use Rattle.definitions.specs.Answer as answers;
 ghost use Rattle.definitions.specs.Answer.{filter_faults, least_of, too_many, turns_long, search_size};
-ghost use Rattle.definitions.specs.Format.{read};
 ghost use Rattle.definitions.specs.Compiled.{Compiled, Searched};
 ghost use Rattle.definitions.specs.Kernel.{accepts_bytes};
 ghost use Rattle.definitions.specs.Outcome.{outcome_of, decided_of, RanAll};
@@ -35,9 +34,7 @@ fn count_with(code: u32, count: u32) -> u32
     ensures { result ≡ answers.count_with code count }
 {
     match code {
-        0 => count,
-        6 => count,
-        7 => count,
+        0 | 6 | 7 => count,
         _ => 0,
     }
 }
@@ -50,10 +47,9 @@ fn answer_for(found: Fault, size: usize, long: u32, room: usize) -> Answer
 {
     let short = note(found, size < TOO_MANY, fault(6, long, NOWHERE, NOWHERE));
     let least = note(short, 8 * size <= room, fault(7, NOWHERE, NOWHERE, NOWHERE));
-    let code = least.code;
     Answer {
-        code: code,
-        count: count_with(code, size as u32),
+        code: least.code,
+        count: count_with(least.code, size as u32),
         entry: least.entry,
         rule: least.rule,
         condition: least.condition,
@@ -86,9 +82,10 @@ fn search_long(set: &[u8], size: usize) -> u32
     ensures { ltb size too_many ≡ false → result ≡ turns_long search_size (set_here set.now) }
 {
     if size < TOO_MANY {
-        return NOWHERE;
+        NOWHERE
+    } else {
+        search_writer::long_entry(set)
     }
-    search_writer::long_entry(set)
 }
 
 // The answer for a set and a room, where the filter is a search.
@@ -112,8 +109,7 @@ pub fn callfilter_compile_search(set: &[u8], out: &mut [u8]) -> Answer
     if answer.code != 0 {
         return answer;
     }
-    let count = answer.count as usize;
-    search_writer::put_search(out, set, count);
+    search_writer::put_search(out, set, answer.count as usize);
     answer
 }
 

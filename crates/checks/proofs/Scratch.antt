@@ -1,15 +1,15 @@
 -- Laws of the pass over the scratch words: one instruction of it, that it looks at sixteen words and no more, and that masks do
 -- what the definitions' sets do.
-use mathlib.Core.Path.{◌≡◌, refl, sym, ◌∙◌}
+use mathlib.Core.Path.{◌≡◌, refl, ap, sym, ◌∙◌}
 use mathlib.Core.Bool.{Bool, true, false, cond, ◌&&◌, ◌||◌}
 use mathlib.Core.List.{List, [], ◌∷◌}
 use Prim.Native.Nat.{ℕ, zero, suc, ◌+◌, ◌-◌, ◌*◌, ◌/◌, ◌%◌, ◌^◌, ◌≤◌, ◌<◌}
-use native.Mathlib.Nat.{add-zero, one-mul}
+use native.Mathlib.Nat.{add-zero, zero-add, one-mul}
 use native.Mathlib.Omega.{arith}
 use lib.Dec.{eqb, ltb}
 use lib.Bits.{bit_and, bit_or, and_shr, and_mod, or_shr, or_mod}
 use lib.Pow.{shl_exact}
-use lib.ListN.{length, get_or, set, replicate, length-set, get_or-replicate}
+use lib.ListN.{length, get_or, set, replicate, get_or-replicate}
 use lib.Seq.{get_or-set_same, get_or-set_other}
 use borrow.Author.Tests.{ltb-true, lt-ltb, eqb-true, eqb-false}
 use Rattle.definitions.specs.declared.Instruction.{Instruction}
@@ -17,7 +17,6 @@ use Rattle.definitions.specs.Machine.{Kind, ld_abs, ld_len, ld_imm, ld_mem, ldx_
 use Rattle.definitions.specs.Machine.{kind_of, instruction_at, instructions_at, filter_of}
 use Rattle.definitions.specs.Kernel.{taken_as, each_taken, Effect, plain, reads, writes, jumps, branches, leaves, effect_as, effect_of, Words, every_word, no_word, both, with_word, narrowed, scratch_next, scratch_taken}
 use Rattle.theorems.proofs.Tests.{both_true, true_both}
-use Rattle.checks.proofs.Codes.{entries, agree}
 use Rattle.checks.proofs.Walk.{length_filter, left_start, left_turn, left_end, each_turn}
 use Rattle.checks.specs.Scratch.{words_of, ahead_of, Same, word_there, jump_there, readable_in, behind_of, beyond_of}
 
@@ -143,6 +142,26 @@ scratch_same (i ∷ p) at n t v w a b h g =
     let same = readable_same (both v (a 0)) (both w (b 0)) here x (there i at n (kind_of i.code) taken.0) in
     scratch_step v a i p ∙ (rw (same, more)) ∙ sym (scratch_step w b i p)
 
+-- ---- what antt computes for each of a few numbers
+
+-- what g says of n numbers from i on
+abbrev entries : {A : Type 0} → (ℕ → A) → ℕ → ℕ → List A
+entries g i zero = []
+entries g i (suc n) = g i ∷ entries g (suc i) n
+
+module _ {A : Type 0} (z : A) where
+  entry_from : (g : ℕ → A) (n i k : ℕ) → k < n → get_or (entries g i n) k z ≡ g (i + k)
+  entry_from g zero i k h = absurd (omega arith)
+  entry_from g (suc n) i zero h = rw (add-zero i)
+  entry_from g (suc n) i (suc k) h = let e : i + suc k ≡ suc i + k = omega arith in rw e (entry_from g n (suc i) k (omega arith))
+
+  entry : (g : ℕ → A) (n k : ℕ) → k < n → get_or (entries g 0 n) k z ≡ g k
+  entry g n k h = rw (zero-add k) at (entry_from g n 0 k h)
+
+  -- two functions whose entries antt computes to the same
+  agree : (f g : ℕ → A) (n : ℕ) → entries f 0 n ≡ entries g 0 n → (k : ℕ) → k < n → f k ≡ g k
+  agree f g n e k h = sym (entry f n k h) ∙ ap (λ (l : List A). get_or l k z) e ∙ entry g n k h
+
 -- ---- bits
 
 bit_and_odd : (x y : ℕ) → eqb (bit_and x y % 2) 1 ≡ (eqb (x % 2) 1 && eqb (y % 2) 1)
@@ -207,33 +226,20 @@ narrow_one ms p t h l d k = go (eqb d t) refl
     go false e =
         rw (get_or-set_other ms (p + t) (p + d) (bit_and (get_or ms (p + t) 0) h) 0 (λ q. let z = eqb-false d t e in z (omega arith)))
 
--- what a jump from place `at` leaves behind in the masks: as many, and for each place beyond what the definition says
-abbrev pub Narrowed : List ℕ → ℕ → (ℕ → Words) → Type 0
-Narrowed out at beyond = (length out ≡ 4096) × ((d : ℕ) → Same (ahead_of out (at + 1) d) (beyond d))
-
 pub narrow_jump : (ms out : List ℕ) (at t q h : ℕ) → length ms ≡ 4096 → ltb (at + 1 + t) 4096 ≡ true → q ≡ at + 1 + t
     → out ≡ set ms q (bit_and (get_or ms q 0) h)
-    → Narrowed out at (narrowed (words_of h) t (ahead_of ms (at + 1)))
-narrow_jump ms out at t q h n l e o =
-    (rw (o, length-set) n, λ d k small. rw (o, e) (narrow_one ms (at + 1) t h (omega (arith, ltb-true (at + 1 + t) 4096 l)) d k))
+    → (d : ℕ) → Same (ahead_of out (at + 1) d) (narrowed (words_of h) t (ahead_of ms (at + 1)) d)
+narrow_jump ms out at t q h n l e o d k small =
+    rw (o, e) (narrow_one ms (at + 1) t h (omega (arith, ltb-true (at + 1 + t) 4096 l)) d k)
 
-pub narrow_branch : (ms mid out : List ℕ) (at t f q r h : ℕ) → length ms ≡ 4096 → (ltb (at + 1 + t) 4096 && ltb (at + 1 + f) 4096) ≡ true
+pub narrow_branch : (ms mid out : List ℕ) (at t f q r h : ℕ) → length ms ≡ 4096 → length mid ≡ 4096 → (ltb (at + 1 + t) 4096 && ltb (at + 1 + f) 4096) ≡ true
     → q ≡ at + 1 + f → mid ≡ set ms q (bit_and (get_or ms q 0) h)
     → r ≡ at + 1 + t → out ≡ set mid r (bit_and (get_or mid r 0) h)
-    → Narrowed out at (narrowed (words_of h) t (narrowed (words_of h) f (ahead_of ms (at + 1))))
-narrow_branch ms mid out at t f q r h n l e o u v =
+    → (d : ℕ) → Same (ahead_of out (at + 1) d) (narrowed (words_of h) t (narrowed (words_of h) f (ahead_of ms (at + 1))) d)
+narrow_branch ms mid out at t f q r h n m l e o u v d k small =
     let w = both_true (ltb (at + 1 + t) 4096) (ltb (at + 1 + f) 4096) l in
-    let first = narrow_jump ms mid at f q h n w.1 e o in
-    let second = narrow_jump mid out at t r h first.0 w.0 u v in (
-      second.0,
-      λ d k small.
-          second.1 d k small
-          ∙ narrowed_same (words_of h) (words_of h) (λ k l. refl) t d (ahead_of mid (at + 1)) (narrowed (words_of h) f (ahead_of ms (at + 1))) (first.1 d) k small,
-    )
-
--- the two ends of a branch are places that there are
-pub branch_ends : (a b : ℕ) → (ltb a 4096 && ltb b 4096) ≡ true → (a < 4096) × (b < 4096)
-branch_ends a b t = let w = both_true (ltb a 4096) (ltb b 4096) t in (ltb-true a 4096 w.0, ltb-true b 4096 w.1)
+    narrow_jump mid out at t r h m w.0 u v d k small
+    ∙ narrowed_same (words_of h) (words_of h) (λ k l. refl) t d (ahead_of mid (at + 1)) (narrowed (words_of h) f (ahead_of ms (at + 1))) (narrow_jump ms mid at f q h n w.1 e o d) k small
 
 -- ---- the loop
 

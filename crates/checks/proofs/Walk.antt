@@ -1,18 +1,17 @@
 -- Laws of a walk over a filter's bytes, eight at a time, and of the checks that are made on it.
 use mathlib.Core.Path.{◌≡◌, refl, ap, ◌∙◌}
-use mathlib.Core.Bool.{true, ◌&&◌}
+use mathlib.Core.Bool.{Bool, true, false, ◌&&◌}
 use mathlib.Core.List.{List, [], ◌∷◌}
 use Prim.Native.Nat.{ℕ, zero, suc, ◌+◌, ◌-◌, ◌*◌, ◌/◌, ◌%◌, ◌≤◌, ◌<◌}
 use native.Mathlib.Omega.{arith}
 use lib.Dec.{eqb, leb}
 use lib.ListN.{length}
 use Rattle.definitions.specs.declared.Instruction.{Instruction}
-use Rattle.definitions.specs.Machine.{Kind, ld_abs, ld_len, ld_imm, ld_mem, ldx_len, ldx_imm, ldx_mem, st, stx, tax, txa, neg, ja, ret_k, ret_a, unknown, alu, jump}
 use Rattle.definitions.specs.Machine.{kind_of, instruction_at, instructions_at, filter_of}
-use Rattle.definitions.specs.Kernel.{taken_as, each_taken, effect_as, effect_of, is_return, ends_in_return, no_word, every_word, scratch_taken, accepts, accepts_bytes}
+use Rattle.definitions.specs.Kernel.{taken_as, each_taken, effect_of, is_return, ends_in_return, no_word, every_word, scratch_taken, accepts, accepts_bytes}
 use borrow.Author.Tests.{eqb-true, leb-true}
+use Rattle.std.proofs.lemmas.Bool.Decides.{nat_tests}
 use Rattle.theorems.proofs.Tests.{both_true}
-use Rattle.checks.specs.Codes.{effect_letter}
 
 pub length_instructions : (s : List ℕ) (n at : ℕ) → length (instructions_at s n at) ≡ n
 unfolding instructions_at
@@ -56,33 +55,13 @@ unfolding instructions_at ends_in_return
 ends_at s zero at = let e : at + 0 * 8 ≡ at = omega arith in rw e
 ends_at s (suc n) at = let e : at + suc n * 8 ≡ at + 8 + n * 8 = omega arith in rw e (ends_at s n (at + 8))
 
-return_letter : (k : Kind) (i : Instruction) → is_return (effect_as k i) ≡ eqb (effect_letter k) 108
-unfolding effect_as is_return effect_letter
-return_letter ld_abs i = refl
-return_letter ld_len i = refl
-return_letter ld_imm i = refl
-return_letter ld_mem i = refl
-return_letter ldx_len i = refl
-return_letter ldx_imm i = refl
-return_letter ldx_mem i = refl
-return_letter st i = refl
-return_letter stx i = refl
-return_letter tax i = refl
-return_letter txa i = refl
-return_letter neg i = refl
-return_letter ja i = refl
-return_letter ret_k i = refl
-return_letter ret_a i = refl
-return_letter unknown i = refl
-return_letter (alu o x) i = refl
-return_letter (jump t x) i = refl
-
 pub ends_by_lem : (s : List ℕ) (i : Instruction) → 8 ≤ length s → i ≡ instruction_at s ((length s / 8 - 1) * 8)
-    → ends_in_return (filter_of s) ≡ eqb (effect_letter (kind_of i.code)) 108
-unfolding filter_of effect_of
+    → ends_in_return (filter_of s) ≡ is_return (effect_of i)
+unfolding filter_of
 ends_by_lem s i h e =
     let n : length s / 8 ≡ suc (length s / 8 - 1) = omega arith in
-    rw n (ends_at s (length s / 8 - 1) 0 ∙ let z : 0 + (length s / 8 - 1) * 8 ≡ (length s / 8 - 1) * 8 = omega arith in rw (z, ← e) (return_letter (kind_of i.code) i))
+    let z : 0 + (length s / 8 - 1) * 8 ≡ (length s / 8 - 1) * 8 = omega arith in
+    rw n (ends_at s (length s / 8 - 1) 0 ∙ rw (z, e))
 
 -- ---- the whole, with the number of instructions by the number of bytes
 
@@ -96,6 +75,26 @@ pub accepts_by : (s : List ℕ)
     && (leb 1 (length s / 8) && leb (length s / 8) 4096 && each_taken 0 (length s / 8) (filter_of s) && ends_in_return (filter_of s) && scratch_taken no_word (λ d. every_word) (filter_of s)))
 unfolding accepts_bytes accepts
 accepts_by s = rw (length_filter s)
+
+-- the same in the order of the code, with the number of bytes
+pub accepts_sized : (s : List ℕ)
+    → accepts_bytes s
+    ≡ (eqb (length s % 8) 0
+    && (leb 8 (length s) && leb (length s) 32768)
+    && each_taken 0 (length s / 8) (filter_of s)
+    && ends_in_return (filter_of s)
+    && scratch_taken no_word (λ d. every_word) (filter_of s))
+accepts_sized s = accepts_by s ∙ go (eqb (length s % 8) 0) refl
+  where
+    go : (x : Bool) → eqb (length s % 8) 0 ≡ x
+        → (x && (leb 1 (length s / 8) && leb (length s / 8) 4096 && each_taken 0 (length s / 8) (filter_of s) && ends_in_return (filter_of s) && scratch_taken no_word (λ d. every_word) (filter_of s)))
+        ≡ (x && (leb 8 (length s) && leb (length s) 32768) && each_taken 0 (length s / 8) (filter_of s) && ends_in_return (filter_of s) && scratch_taken no_word (λ d. every_word) (filter_of s))
+    go false e = refl
+    go true e =
+        let whole = eqb-true (length s % 8) 0 e in
+        let least : leb 1 (length s / 8) ≡ leb 8 (length s) = grind (arith, nat_tests) in
+        let most : leb (length s / 8) 4096 ≡ leb (length s) 32768 = grind (arith, nat_tests) in
+        rw (least, most)
 
 pub accepts_short : (s : List ℕ) → accepts_bytes s ≡ true → length s ≤ 32768
 accepts_short s t =

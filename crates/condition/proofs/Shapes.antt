@@ -128,6 +128,17 @@ length_shaped Lt w = refl
 length_shaped MaskedEq w = refl
 length_shaped Ne w = refl
 
+-- the order of high words decides of no masked condition
+pub ordered_unmasked : (o : Operator) → cond (ordered o) 1 0 + cond (masked o) 1 0 ≤ 1
+unfolding masked ordered
+ordered_unmasked Eq = omega arith
+ordered_unmasked Ge = omega arith
+ordered_unmasked Gt = omega arith
+ordered_unmasked Le = omega arith
+ordered_unmasked Lt = omega arith
+ordered_unmasked MaskedEq = omega arith
+ordered_unmasked Ne = omega arith
+
 pub condition_long_lem : (q : Condition) (f : ℕ) {o : Operator} {w : Width} → q.operator ≡ o → q.width ≡ w → length (condition_code q f) ≡ condition_length o w
 condition_long_lem q f d e = rw (length_condition_code q f, d, e)
 

@@ -2,7 +2,7 @@
 // condition jumps depends on what stands behind it. Each half of the argument takes two or three of them.
 #![tactic(auto)]
 
-ghost use Rattle.std.specs.Prelude.{◌≡◌, true, false, cond, [], ◌∷◌, ℕ, ◌+◌, ◌*◌, ◌≤◌, ◌<◌, length};
+ghost use Rattle.std.specs.Prelude.{◌≡◌, true, false, [], ◌∷◌, ℕ, ◌+◌, ◌*◌, ◌≤◌, ◌<◌, length};
 ghost use Rattle.definitions.specs.Word as word;
 ghost use Rattle.definitions.specs.Emitted as emitted;
 ghost use Rattle.definitions.specs.Emitted.{if_equal, mask_by, condition_code};
@@ -30,29 +30,21 @@ fn load_word(index: u8, first: u32) -> Instruction
     requires { first < 256 }
     ensures { result ≡ emitted.load (first + 8 * index) }
 {
-    bpf::load(first + 8 * (index as u32))
+    bpf::load(first + 8 * u32::from(index))
 }
 
-// Writes two instructions so that they end at a place, and answers the place where they begin.
-fn put_two(out: &mut [u8], end: usize, a: Instruction, b: Instruction) -> usize
-    requires { (16 ≤ end) × (end ≤ length out.old) }
-    ensures { PutBefore out.old end (a ∷ b ∷ []) out.new result }
+// Writes instructions so that they end at a place, and answers the place where they begin.
+#[tactic(auto, using(bpf::proofs::Buffer::put_next, bpf::proofs::Buffer::put_at))]
+fn put_all<const N: usize>(out: &mut [u8], end: usize, instructions: [Instruction; N]) -> usize
+    requires { (8 * N ≤ end) × (end ≤ length out.old) }
+    ensures { PutBefore out.old end instructions.entry out.new result }
 {
-    let at = end - 16;
-    bpf::put(out, at, a);
-    bpf::put(out, at + 8, b);
-    at
-}
-
-// The same with three.
-fn put_three(out: &mut [u8], end: usize, a: Instruction, b: Instruction, c: Instruction) -> usize
-    requires { (24 ≤ end) × (end ≤ length out.old) }
-    ensures { PutBefore out.old end (a ∷ b ∷ c ∷ []) out.new result }
-{
-    let at = end - 24;
-    bpf::put(out, at, a);
-    bpf::put(out, at + 8, b);
-    bpf::put(out, at + 16, c);
+    let at = end - 8 * N;
+    let mut next = at;
+    for instruction in instructions {
+        bpf::put(out, next, instruction);
+        next += 8;
+    }
     at
 }
 
@@ -60,72 +52,42 @@ fn put_three(out: &mut [u8], end: usize, a: Instruction, b: Instruction, c: Inst
 // code with few jumps, which matters where operators change from condition to condition.
 
 // Whether both words are masked first.
+#[tactic(auto, unfolding(crate::specs::Shape::masked))]
 fn is_masked(operator: Operator) -> bool
     ensures { result ≡ shapes.masked operator }
 {
-    match operator {
-        Operator::Eq => false,
-        Operator::Ge => false,
-        Operator::Gt => false,
-        Operator::Le => false,
-        Operator::Lt => false,
-        Operator::MaskedEq => true,
-        Operator::Ne => false,
-    }
+    matches!(operator, Operator::MaskedEq)
 }
 
 // Whether the order of the high words can decide.
+#[tactic(auto, unfolding(crate::specs::Shape::ordered))]
 fn is_ordered(operator: Operator) -> bool
     ensures { result ≡ shapes.ordered operator }
 {
-    match operator {
-        Operator::Eq => false,
-        Operator::Ge => true,
-        Operator::Gt => true,
-        Operator::Le => true,
-        Operator::Lt => true,
-        Operator::MaskedEq => false,
-        Operator::Ne => false,
-    }
+    matches!(
+        operator,
+        Operator::Ge | Operator::Gt | Operator::Le | Operator::Lt
+    )
 }
 
 // Whether the comparison fails where the jump on the low words is taken.
+#[tactic(auto, unfolding(crate::specs::Shape::turned))]
 fn is_turned(operator: Operator) -> bool
     ensures { result ≡ shapes.turned operator }
 {
-    match operator {
-        Operator::Eq => false,
-        Operator::Ge => false,
-        Operator::Gt => false,
-        Operator::Le => true,
-        Operator::Lt => true,
-        Operator::MaskedEq => false,
-        Operator::Ne => true,
-    }
+    matches!(operator, Operator::Le | Operator::Lt | Operator::Ne)
 }
 
 // The code of that jump.
+#[tactic(auto, unfolding(crate::specs::Shape::jump_code))]
 fn jump_code(operator: Operator) -> u16
     ensures { result ≡ shapes.jump_code operator }
 {
     match operator {
-        Operator::Eq => 0x15,
-        Operator::Ge => 0x35,
-        Operator::Gt => 0x25,
-        Operator::Le => 0x25,
-        Operator::Lt => 0x35,
-        Operator::MaskedEq => 0x15,
-        Operator::Ne => 0x15,
+        Operator::Eq | Operator::MaskedEq | Operator::Ne => 0x15,
+        Operator::Gt | Operator::Le => 0x25,
+        Operator::Ge | Operator::Lt => 0x35,
     }
-}
-
-fn distance_if(there: bool, f: u8) -> u8
-    ensures { (result ≡ cond there f 0) × (result ≤ f) }
-{
-    if there {
-        return f;
-    }
-    0
 }
 
 // Writes a masked comparison of one half. The failing side is `f` away.
@@ -140,18 +102,18 @@ fn put_masked_half(
     requires { (24 ≤ end) × (end ≤ length out.old) }
     ensures { PutBefore out.old end (load ∷ mask_by mask ∷ if_equal value 0 f ∷ []) out.new result }
 {
-    put_three(out, end, load, mask_by(mask), if_equal(value, 0, f))
+    put_all(out, end, [load, mask_by(mask), if_equal(value, 0, f)])
 }
 
 // Writes a masked comparison.
+#[tactic(auto, using(crate::proofs::Shapes::masked_dword, crate::proofs::Shapes::masked_qword, crate::proofs::Shapes::masked_fits, bpf::proofs::Buffer::put_both))]
 fn put_masked(out: &mut [u8], end: usize, q: Condition, f: u8) -> usize
     requires { (f ≤ 252) × (8 * length (condition_code q f) ≤ end) × (end ≤ length out.old) × (masked q.operator ≡ true) }
     ensures { PutBefore out.old end (condition_code q f) out.new result }
 {
     let value = q.value & q.mask;
     let next = put_masked_half(out, end, load_word(q.index, 16), low(value), low(q.mask), f);
-    let width = q.width;
-    match width {
+    match q.width {
         Width::Dword => next,
         Width::Qword => put_masked_half(
             out,
@@ -166,6 +128,7 @@ fn put_masked(out: &mut [u8], end: usize, q: Condition, f: u8) -> usize
 
 // Writes the high words compared, for which the low words' jump goes `t` or `f` on: their order decides, where it may; else they have to
 // be equal. The instruction that compares their order is overwritten where there is none, which is faster than asking first.
+#[tactic(auto, using(crate::proofs::Shapes::high_two, bpf::proofs::Buffer::put_over, bpf::proofs::Buffer::put_in_front, bpf::proofs::Buffer::put_at), unfolding(crate::specs::Shape::high_code))]
 fn put_high(
     out: &mut [u8],
     end: usize,
@@ -181,39 +144,37 @@ fn put_high(
     let at = end - 16;
     bpf::put(out, at, if_greater(v, t + 3, 0));
     bpf::put(out, at + 8, if_equal(v, 0, f + 2));
-    if ordered {
-        bpf::put(out, at - 8, load);
-        return at - 8;
-    }
-    bpf::put(out, at, load);
-    at
+    let front = if ordered { at - 8 } else { at };
+    bpf::put(out, front, load);
+    front
 }
 
 // Writes a comparison that is not masked.
+#[tactic(auto, using(crate::proofs::Shapes::compared_dword, crate::proofs::Shapes::compared_qword, crate::proofs::Shapes::compared_fits, bpf::proofs::Buffer::put_both))]
 fn put_compared(out: &mut [u8], end: usize, q: Condition, f: u8) -> usize
     requires { (f ≤ 252) × (8 * length (condition_code q f) ≤ end) × (end ≤ length out.old) × (masked q.operator ≡ false) }
     ensures { PutBefore out.old end (condition_code q f) out.new result }
 {
-    let operator = q.operator;
-    let turned = is_turned(operator);
-    let jt = distance_if(turned, f);
-    let jf = distance_if(!turned, f);
+    let (jt, jf) = if is_turned(q.operator) {
+        (f, 0)
+    } else {
+        (0, f)
+    };
     let jump = Instruction {
-        code: jump_code(operator),
-        jt: jt,
-        jf: jf,
+        code: jump_code(q.operator),
+        jt,
+        jf,
         k: low(q.value),
     };
-    let next = put_two(out, end, load_word(q.index, 16), jump);
-    let width = q.width;
-    match width {
+    let next = put_all(out, end, [load_word(q.index, 16), jump]);
+    match q.width {
         Width::Dword => next,
         Width::Qword => put_high(
             out,
             next,
             load_word(q.index, 20),
             high(q.value),
-            is_ordered(operator),
+            is_ordered(q.operator),
             jt,
             jf,
         ),
@@ -225,34 +186,24 @@ pub fn put_condition(out: &mut [u8], end: usize, q: Condition, f: u8) -> usize
     requires { (f ≤ 252) × (8 * length (condition_code q f) ≤ end) × (end ≤ length out.old) }
     ensures { PutBefore out.old end (condition_code q f) out.new result }
 {
-    let operator = q.operator;
-    if is_masked(operator) {
-        return put_masked(out, end, q, f);
+    if is_masked(q.operator) {
+        put_masked(out, end, q, f)
+    } else {
+        put_compared(out, end, q, f)
     }
-    put_compared(out, end, q, f)
-}
-
-fn one_if(there: bool) -> usize
-    ensures { (result ≡ cond there 1 0) × (result ≤ 1) }
-{
-    if there {
-        return 1;
-    }
-    0
 }
 
 // How many instructions a condition has: two for each half, and one more where it is masked, or the order of high words decides. Both are
 // counted for either width, so that nothing waits for the width.
+#[tactic(auto, using(crate::proofs::Shapes::condition_long_lem, crate::proofs::Shapes::length_shaped, crate::proofs::Shapes::ordered_unmasked))]
 pub fn condition_length(q: Condition) -> usize
     ensures { ((f : ℕ) → length (condition_code q f) ≡ result) × (2 ≤ result) × (result ≤ 6) }
 {
-    let operator = q.operator;
-    let masked = one_if(is_masked(operator));
-    let ordered = one_if(is_ordered(operator));
+    let masked = usize::from(is_masked(q.operator));
+    let ordered = usize::from(is_ordered(q.operator));
     let dword = 2 + masked;
     let qword = 4 + ordered + 2 * masked;
-    let width = q.width;
-    match width {
+    match q.width {
         Width::Dword => dword,
         Width::Qword => qword,
     }

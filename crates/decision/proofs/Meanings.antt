@@ -1,15 +1,16 @@
--- Laws of what a rule set means, from the bytes: an argument's place, and for each loop when it stops, one turn, and its end.
+-- Laws of what a rule set means: an argument's place, and conditions, rules and entries one after the other.
 use mathlib.Core.Path.{◌≡◌, refl}
-use mathlib.Core.Bool.{Bool, true, false, cond, ◌&&◌}
-use mathlib.Core.List.{List}
+use mathlib.Core.Bool.{true, false, cond, ◌&&◌}
+use mathlib.Core.List.{List, [], ◌∷◌}
+use Rattle.std.specs.List.{list_all, list_any}
 use mathlib.Core.Option.{Option, none, some}
-use Prim.Native.Nat.{ℕ, zero, suc, ◌+◌, ◌-◌, ◌*◌, ◌≤◌, ◌<◌}
+use Prim.Native.Nat.{ℕ, zero, suc, ◌+◌, ◌*◌, ◌≤◌, ◌<◌}
 use native.Mathlib.Omega.{arith}
 use lib.ListN.{length}
 use borrow.Author.Tests.{eq-eqb, ne_eqb}
 use Rattle.definitions.specs.Word.{number_at}
 use Rattle.definitions.specs.Machine.{Call, call_of}
-use Rattle.definitions.specs.RuleSet.{RuleSet, architecture_word, in_second_table, guarded, kill_process, argument, holds, all_hold, any_holds, matches, listed, meaning}
+use Rattle.definitions.specs.RuleSet.{RuleSet, Rule, Entry, architecture_word, in_second_table, guarded, kill_process, argument, holds, all_hold, any_holds, matches, listed, meaning}
 use Rattle.definitions.specs.Format.{read}
 use Rattle.definitions.specs.Answer.{refusal}
 use Rattle.definitions.specs.Outcome.{decided, decided_read, decided_of}
@@ -17,9 +18,8 @@ use Rattle.theorems.proofs.Answers.{none_refused}
 use Rattle.judge.specs.declared.Judged.{Judged}
 use Rattle.judge.specs.Walk.{judged}
 use Rattle.set_view.specs.Names.{guards_by, named_architecture}
-use Rattle.set_view.specs.Parts.{Readable, condition_here, conditions_here, entries_here, entries_past, entry_here, entry_past, parts, rules_here, rules_past, set_here}
+use Rattle.set_view.specs.Parts.{Readable, set_here}
 use Rattle.set_view.proofs.Agree.{read_agrees, readable}
-use Rattle.set_view.proofs.Walk.{entry_further, entry_inside, entry_past_lem}
 
 -- ---- an argument
 
@@ -41,71 +41,44 @@ argument_none (suc (suc (suc (suc zero)))) call h = absurd (omega arith)
 argument_none (suc (suc (suc (suc (suc zero))))) call h = absurd (omega arith)
 argument_none (suc (suc (suc (suc (suc (suc i)))))) call h = refl
 
-less : (n : ℕ) → suc n - 1 ≡ n
-less n = omega arith
+module _ (c : Call) where
+  -- ---- conditions, rules, entries
+
+  pub all_is : (qs : Rule) → all_hold c qs ≡ list_all (holds c) qs
+  unfolding all_hold
+  all_is [] = refl
+  all_is (q ∷ qs) = rw (all_is qs)
+
+  pub any_is : (rs : List Rule) → any_holds c rs ≡ list_any (all_hold c) rs
+  unfolding any_holds
+  any_is [] = refl
+  any_is (r ∷ rs) = rw (any_is rs)
+
+  pub matches_none : (rs : List Rule) → rs ≡ [] → matches c rs ≡ true
+  unfolding matches
+  matches_none rs e = rw e
+
+  pub matches_some : (rs : List Rule) → (rs ≡ [] → ⊥) → matches c rs ≡ any_holds c rs
+  unfolding matches
+  matches_some [] h = absurd (h refl)
+  matches_some (r ∷ rs) h = refl
+
+  module _ (m d : ℕ) where
+    pub listed_none : (es : List Entry) → es ≡ [] → listed c m d es ≡ d
+    unfolding listed
+    listed_none es e = rw e
+
+    pub listed_here : (es rest : List Entry) (number : ℕ) (rs : List Rule) → es ≡ record { number = number; rules = rs } ∷ rest → c.number ≡ number
+        → listed c m d es ≡ cond (matches c rs) m d
+    unfolding listed
+    listed_here es rest number rs e f = rw (e, eq-eqb c.number number f)
+
+    pub listed_behind : (es rest : List Entry) (number : ℕ) (rs : List Rule) → es ≡ record { number = number; rules = rs } ∷ rest → (c.number ≡ number → ⊥)
+        → listed c m d es ≡ listed c m d rest
+    unfolding listed
+    listed_behind es rest number rs e f = rw (e, ne_eqb c.number number f)
 
 module _ (c : Call) (s : List ℕ) where
-  -- ---- conditions
-
-  pub all_stop : (n at : ℕ) → (n ≡ 0 → ⊥) → holds c (condition_here s at) ≡ false → all_hold c (conditions_here s n at) ≡ false
-  unfolding parts all_hold
-  all_stop zero at h e = absurd (h refl)
-  all_stop (suc n) at h e = rw e
-
-  pub all_turn : (n at : ℕ) → (n ≡ 0 → ⊥) → holds c (condition_here s at) ≡ true
-      → all_hold c (conditions_here s n at) ≡ all_hold c (conditions_here s (n - 1) (at + 24))
-  unfolding parts all_hold
-  all_turn zero at h e = absurd (h refl)
-  all_turn (suc n) at h e = rw (e, less n)
-
-  pub all_end : (n at : ℕ) → n ≡ 0 → all_hold c (conditions_here s n at) ≡ true
-  unfolding parts all_hold
-  all_end n at e = rw e
-
-  -- ---- rules
-
-  pub any_stop : (n at : ℕ) → (n ≡ 0 → ⊥) → all_hold c (conditions_here s (number_at 4 s at) (at + 4)) ≡ true → any_holds c (rules_here s n at) ≡ true
-  unfolding parts any_holds
-  any_stop zero at h e = absurd (h refl)
-  any_stop (suc n) at h e = rw e
-
-  pub any_turn : (n at : ℕ) → (n ≡ 0 → ⊥) → all_hold c (conditions_here s (number_at 4 s at) (at + 4)) ≡ false
-      → any_holds c (rules_here s n at) ≡ any_holds c (rules_here s (n - 1) (at + 4 + 24 * number_at 4 s at))
-  unfolding parts any_holds
-  any_turn zero at h e = absurd (h refl)
-  any_turn (suc n) at h e = rw (e, less n)
-
-  pub any_end : (n at : ℕ) → n ≡ 0 → any_holds c (rules_here s n at) ≡ false
-  unfolding parts any_holds
-  any_end n at e = rw e
-
-  pub matches_none : (n at : ℕ) → n ≡ 0 → matches c (rules_here s n at) ≡ true
-  unfolding parts matches
-  matches_none n at e = rw e
-
-  pub matches_some : (n at : ℕ) → (n ≡ 0 → ⊥) → matches c (rules_here s n at) ≡ any_holds c (rules_here s n at)
-  unfolding parts matches
-  matches_some zero at h = absurd (h refl)
-  matches_some (suc n) at h = refl
-
-  -- ---- entries
-
-  pub listed_stop : (m d n at : ℕ) (t : Bool) → (n ≡ 0 → ⊥) → c.number ≡ number_at 4 s at
-      → matches c (rules_here s (number_at 4 s (at + 4)) (at + 8)) ≡ t → listed c m d (entries_here s n at) ≡ cond t m d
-  unfolding parts entry_here listed
-  listed_stop m d zero at t h e f = absurd (h refl)
-  listed_stop m d (suc n) at t h e f = rw (eq-eqb c.number (number_at 4 s at) e, f)
-
-  pub listed_turn : (m d n at : ℕ) → (n ≡ 0 → ⊥) → (c.number ≡ number_at 4 s at → ⊥)
-      → listed c m d (entries_here s n at) ≡ listed c m d (entries_here s (n - 1) (entry_past s at))
-  unfolding parts entry_here listed
-  listed_turn m d zero at h e = absurd (h refl)
-  listed_turn m d (suc n) at h e = rw (ne_eqb c.number (number_at 4 s at) e, less n)
-
-  pub listed_end : (m d n at : ℕ) → n ≡ 0 → listed c m d (entries_here s n at) ≡ d
-  unfolding parts listed
-  listed_end m d n at e = rw e
-
   -- ---- the whole
 
   pub meaning_other : (c.architecture ≡ architecture_word (named_architecture (number_at 4 s 0)) → ⊥) → meaning (set_here s) c ≡ kill_process
@@ -118,16 +91,9 @@ module _ (c : Call) (s : List ℕ) where
   meaning_killed e k = rw (eq-eqb _ _ e, k)
 
   pub meaning_own : c.architecture ≡ architecture_word (named_architecture (number_at 4 s 0)) → (guards_by (number_at 4 s 0) && in_second_table c.number) ≡ false
-      → meaning (set_here s) c ≡ listed c (number_at 4 s 8) (number_at 4 s 4) (entries_here s (number_at 4 s 12) 16)
+      → meaning (set_here s) c ≡ listed c (number_at 4 s 8) (number_at 4 s 4) (set_here s).entries
   unfolding meaning set_here guarded guards_by
   meaning_own e k = rw (eq-eqb _ _ e, k)
-
--- where all that is left ends in the bytes, the next entry does
-pub entry_fits : (s : List ℕ) (n at past : ℕ) → (n ≡ 0 → ⊥) → entries_past s n at ≡ past → past ≤ length s
-    → (at + 8 ≤ length s) × (rules_past s (number_at 4 s (at + 4)) (at + 8) ≤ length s)
-entry_fits s n at past h e i =
-    let inside = entry_inside s n at past h e i in
-    (omega (arith, entry_further s at), rw (← entry_past_lem s at) inside)
 
 -- ---- what is decided, by what is said of the set
 

@@ -2,16 +2,16 @@
 // the walk over its entries may trust every count in it.
 #![tactic(auto)]
 
-ghost use Rattle.std.specs.Prelude.{◌≡◌, ◌&&◌, ◌+◌, ◌*◌, length};
+ghost use Rattle.std.specs.Prelude.{◌≡◌, ◌&&◌};
 ghost use Rattle.definitions.specs.Machine.{call_of};
 ghost use Rattle.definitions.specs.RuleSet as defined;
 ghost use Rattle.definitions.specs.Outcome as outcomes;
 ghost use Rattle.set_view.specs.Names.{guards_by};
-ghost use Rattle.set_view.specs.Parts.{Reach, Readable, conditions_here, entries_here, entries_past, rules_here, rules_past, set_here};
+ghost use Rattle.set_view.specs.Parts.{Readable, set_here};
 
 use definitions::{Condition, Decision, Fault, Operator, Width};
 use faults::{NOWHERE, fault};
-use set_view::condition_here;
+use set_view::{Actions, Conditions, Entries, Rules};
 
 const KILL_PROCESS: u32 = 0x80000000;
 
@@ -46,8 +46,7 @@ fn test(operator: Operator, x: u64, v: u64, m: u64) -> bool
 }
 
 // The argument with that index, and 0 where there is none.
-fn argument(call: &[u8], index: u8) -> u64
-    requires { length call.now ≡ 64 }
+fn argument(call: &[u8; 64], index: u8) -> u64
     ensures { result ≡ defined.argument index (call_of call.now) }
 {
     if 5 < index {
@@ -56,115 +55,72 @@ fn argument(call: &[u8], index: u8) -> u64
     bpf::u64_at(call, 16 + 8 * (index as usize))
 }
 
-fn holds(call: &[u8], q: Condition) -> bool
-    requires { length call.now ≡ 64 }
+fn holds(call: &[u8; 64], q: Condition) -> bool
     ensures { result ≡ defined.holds (call_of call.now) q }
 {
-    let width = q.width;
-    let x = cut(width, argument(call, q.index));
-    let v = cut(width, q.value);
-    let m = cut(width, q.mask);
-    let operator = q.operator;
-    test(operator, x, v, m)
+    let x = cut(q.width, argument(call, q.index));
+    let v = cut(q.width, q.value);
+    let m = cut(q.width, q.mask);
+    test(q.operator, x, v, m)
 }
 
-// Whether all n conditions of a rule hold.
-fn all_hold(call: &[u8], s: &[u8], n: u32, from: usize) -> bool
-    requires call_len { length call.now ≡ 64 }
-    requires reach { Reach s.now (from + 24 * n) }
-    ensures { result ≡ defined.all_hold (call_of call.now) (conditions_here s.now n from) }
+// Whether all conditions of a rule hold.
+fn all_hold(call: &[u8; 64], mut conditions: Conditions<'_>) -> bool
+    ensures { result ≡ defined.all_hold (call_of call.now) conditions.entry }
 {
-    let mut at = from;
-    let mut left = n;
-    while left != 0 {
-        if !holds(call, condition_here(s, at)) {
-            return false;
-        }
-        at = at + 24;
-        left = left - 1;
-    }
-    true
+    conditions.all(|q| holds(call, q))
 }
 
-// Whether one of n rules matches.
-fn any_holds(call: &[u8], s: &[u8], n: u32, from: usize) -> bool
-    requires call_len { length call.now ≡ 64 }
-    requires reach { Reach s.now (rules_past s.now n from) }
-    ensures { result ≡ defined.any_holds (call_of call.now) (rules_here s.now n from) }
+// Whether one of the rules matches.
+fn any_holds(call: &[u8; 64], mut rules: Rules<'_>) -> bool
+    ensures { result ≡ defined.any_holds (call_of call.now) rules.entry.rules }
 {
-    let mut at = from;
-    let mut left = n;
-    while left != 0 {
-        let conditions = bpf::u32_at(s, at);
-        if all_hold(call, s, conditions, at + 4) {
-            return true;
-        }
-        at = set_view::rule_past(at, conditions);
-        left = left - 1;
-    }
-    false
+    rules.any(|conditions| all_hold(call, conditions))
 }
 
-// Whether an entry with n rules matches; without rules it always does.
-fn matches(call: &[u8], s: &[u8], n: u32, from: usize) -> bool
-    requires call_len { length call.now ≡ 64 }
-    requires reach { Reach s.now (rules_past s.now n from) }
-    ensures { result ≡ defined.matches (call_of call.now) (rules_here s.now n from) }
+// Whether an entry with these rules matches; without rules it always does.
+#[tactic(auto, using(crate::proofs::Meanings::matches_none, crate::proofs::Meanings::matches_some))]
+fn matches(call: &[u8; 64], rules: Rules<'_>) -> bool
+    ensures { result ≡ defined.matches (call_of call.now) rules.entry.rules }
 {
-    if n == 0 {
-        return true;
-    }
-    any_holds(call, s, n, from)
+    rules.is_empty() || any_holds(call, rules)
 }
 
-// What n entries say. Match action m, mismatch action d.
-fn listed(call: &[u8], s: &[u8], n: u32, from: usize, m: u32, d: u32) -> u32
-    requires call_len { length call.now ≡ 64 }
-    requires reach { Reach s.now (entries_past s.now n from) }
-    ensures { result ≡ defined.listed (call_of call.now) m d (entries_here s.now n from) }
+// What becomes of a call by the entries that list its number, or by none.
+fn listed(call: &[u8; 64], mut entries: Entries<'_>, actions: Actions) -> u32
+    ensures { result ≡ defined.listed (call_of call.now) actions.on_match actions.mismatch entries.entry }
 {
     let number = bpf::u32_at(call, 0);
-    let mut at = from;
-    let mut left = n;
-    while left != 0 {
-        let rules = bpf::u32_at(s, at + 4);
-        if number == bpf::u32_at(s, at) {
-            if matches(call, s, rules, at + 8) {
-                return m;
-            }
-            return d;
+    while let Some((listed, rules)) = entries.split_first() {
+        if listed == number {
+            return if matches(call, rules) {
+                actions.on_match
+            } else {
+                actions.mismatch
+            };
         }
-        at = set_view::rules_past(s, rules, at + 8);
-        left = left - 1;
+        entries = rules.entries_behind();
     }
-    d
+    actions.mismatch
 }
 
 // Whether a call's number is of the second table.
 fn in_second_table(n: u32) -> bool
     ensures { result ≡ defined.in_second_table n }
 {
-    let bit = n & SECOND_TABLE;
-    if bit == 0 {
-        return false;
-    }
-    n != CANCELLED
+    n & SECOND_TABLE != 0 && n != CANCELLED
 }
 
 // Whether a number is of a second table that is not served.
 fn kills(a: u32, number: u32) -> bool
     ensures { result ≡ (guards_by a && defined.in_second_table number) }
 {
-    if set_view::guards(a) {
-        return in_second_table(number);
-    }
-    false
+    set_view::guards(a) && in_second_table(number)
 }
 
 // What a set of the format means. A call of another architecture is killed.
-fn meaning(s: &[u8], call: &[u8]) -> u32
-    requires readable { Readable s.now }
-    requires call_len { length call.now ≡ 64 }
+fn meaning(s: &[u8], call: &[u8; 64]) -> u32
+    requires { Readable s.now }
     ensures { result ≡ defined.meaning (set_here s.now) (call_of call.now) }
 {
     let a = bpf::u32_at(s, 0);
@@ -174,10 +130,7 @@ fn meaning(s: &[u8], call: &[u8]) -> u32
     if kills(a, bpf::u32_at(call, 0)) {
         return KILL_PROCESS;
     }
-    let d = bpf::u32_at(s, 4);
-    let m = bpf::u32_at(s, 8);
-    let n = bpf::u32_at(s, 12);
-    listed(call, s, n, 16, m, d)
+    listed(call, Entries::new(s), set_view::actions_here(s))
 }
 
 fn decided(found: Fault, action: u32) -> Decision
@@ -185,7 +138,7 @@ fn decided(found: Fault, action: u32) -> Decision
 {
     Decision {
         code: found.code,
-        action: action,
+        action,
         entry: found.entry,
         rule: found.rule,
         condition: found.condition,
@@ -196,9 +149,9 @@ fn decided(found: Fault, action: u32) -> Decision
 pub fn decide(set: &[u8], call: &[u8]) -> Decision
     ensures { result ≡ outcomes.decided_of set.now call.now }
 {
-    if call.len() != 64 {
+    let Ok(call) = <&[u8; 64]>::try_from(call) else {
         return decided(fault(9, NOWHERE, NOWHERE, NOWHERE), 0);
-    }
+    };
     let found = judge::judge(set).fault;
     if found.code != 0 {
         return decided(found, 0);

@@ -2,7 +2,7 @@
 // number of conditions of a rule, and for whoever walks over more.
 #![tactic(auto)]
 
-ghost use Rattle.std.specs.Prelude.{◌≡◌, cond, ◌&&◌, ◌||◌, eqb, ltb};
+ghost use Rattle.std.specs.Prelude.{◌≡◌};
 ghost use Rattle.definitions.specs.Answer as answers;
 ghost use Rattle.definitions.specs.Answer.{fits_width, unless, condition_faults, count_faults, least_of};
 
@@ -15,80 +15,60 @@ pub fn fault(code: u32, entry: u32, rule: u32, condition: u32) -> Fault
     ensures { result ≡ answers.fault code entry rule condition }
 {
     Fault {
-        code: code,
-        entry: entry,
-        rule: rule,
-        condition: condition,
+        code,
+        entry,
+        rule,
+        condition,
     }
-}
-
-// Whether a further fault is told instead of the one that was found.
-fn takes(found: u32, more: u32) -> bool
-    ensures { result ≡ (eqb found 0 || ltb more found) }
-{
-    if found == 0 {
-        return true;
-    }
-    more < found
-}
-
-fn chosen(first: bool, a: u32, b: u32) -> u32
-    ensures { result ≡ cond first a b }
-{
-    if first {
-        return a;
-    }
-    b
 }
 
 // What was found so far, and what a test finds that should hold. Number by number, so that none of them has to stand in memory.
+#[tactic(auto, using(theorems::proofs::Faults::least_unless), unfolding(definitions::specs::Answer::lesser))]
 pub fn note(found: Fault, holds: bool, more: Fault) -> Fault
     ensures { result ≡ least_of found (unless holds more) }
 {
     if holds {
         return found;
     }
-    let taken = takes(found.code, more.code);
+    let taken = found.code == 0 || more.code < found.code;
     fault(
-        chosen(taken, more.code, found.code),
-        chosen(taken, more.entry, found.entry),
-        chosen(taken, more.rule, found.rule),
-        chosen(taken, more.condition, found.condition),
+        if taken { more.code } else { found.code },
+        if taken { more.entry } else { found.entry },
+        if taken { more.rule } else { found.rule },
+        if taken {
+            more.condition
+        } else {
+            found.condition
+        },
     )
-}
-
-fn both(a: bool, b: bool) -> bool
-    ensures { result ≡ (a && b) }
-{
-    if a {
-        return b;
-    }
-    false
 }
 
 // Whether a condition's value and mask have no more bits than it looks at.
 fn fits_width(q: Condition) -> bool
     ensures { result ≡ fits_width q }
 {
-    let width = q.width;
-    match width {
-        Width::Dword => both(q.value <= 4294967295, q.mask <= 4294967295),
+    let narrow = q.value <= 4294967295 && q.mask <= 4294967295;
+    match q.width {
+        Width::Dword => narrow,
         Width::Qword => true,
     }
 }
 
 // What is wrong with a condition: its number and place, noted behind what was found so far.
+#[tactic(auto, using(theorems::proofs::Faults::least_append, theorems::proofs::Faults::least_unless), unfolding(definitions::specs::Answer::condition_faults))]
 pub fn condition_fault(found: Fault, q: Condition, entry: u32, rule: u32, condition: u32) -> Fault
     ensures { result ≡ least_of found (condition_faults entry rule condition q) }
 {
-    if both(q.index <= 5, fits_width(q)) {
+    let fits = fits_width(q);
+    if q.index <= 5 && fits {
         return found;
     }
     let index = note(found, q.index <= 5, fault(5, entry, rule, condition));
-    note(index, fits_width(q), fault(8, entry, rule, condition))
+    note(index, fits, fault(8, entry, rule, condition))
 }
 
 // The same of a rule with n conditions.
+#[tactic(auto, unfolding(definitions::specs::Answer::count_faults))]
 pub fn count_fault(found: Fault, n: u32, entry: u32, rule: u32) -> Fault
     ensures { result ≡ least_of found (count_faults entry rule n) }
 {

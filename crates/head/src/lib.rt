@@ -7,7 +7,6 @@ ghost use Rattle.definitions.specs.Machine.{filter_bytes};
 ghost use Rattle.definitions.specs.RuleSet.{architecture_word, kill_process};
 ghost use Rattle.definitions.specs.Emitted as emitted;
 ghost use Rattle.definitions.specs.Emitted.{guard, head_code};
-ghost use Rattle.definitions.specs.Format as format;
 ghost use Rattle.bpf.specs.Place.{place};
 ghost use Rattle.set_view.specs.Names.{guards_by, named_architecture};
 
@@ -21,19 +20,21 @@ const CANCELLED: u32 = 0xffffffff;
 const KILL_PROCESS: u32 = 0x80000000;
 
 // How many instructions stand in front of n entries.
+#[tactic(auto, using(crate::proofs::Heads::head_guarded, crate::proofs::Heads::head_none, crate::proofs::Heads::head_some))]
 pub fn head_length(a: u32, n: u32) -> usize
     ensures { (result ≡ length (head_code (named_architecture a) (guards_by a) n)) × (result ≤ 7) }
 {
     if set_view::guards(a) {
-        return 7;
+        7
+    } else if n == 0 {
+        3
+    } else {
+        4
     }
-    if n == 0 {
-        return 3;
-    }
-    4
 }
 
 // Writes the test of the architecture, which stands at 4 in the call data.
+#[tactic(auto, using(bpf::proofs::Buffer::put_3))]
 fn put_architecture(out: &mut [u8], a: u32)
     requires { 24 ≤ length out.old }
     ensures { out.new ≡ place out.old 0
@@ -45,6 +46,7 @@ fn put_architecture(out: &mut [u8], a: u32)
 }
 
 // Writes the guard against numbers of the second table, behind the load of the number.
+#[tactic(auto, using(bpf::proofs::Buffer::put_3))]
 fn put_guard(out: &mut [u8])
     requires { 56 ≤ length out.old }
     ensures { out.new ≡ place out.old 32 (filter_bytes guard) }
@@ -56,6 +58,7 @@ fn put_guard(out: &mut [u8])
 
 // Writes what stands in front of n entries, and answers the place behind it. The number, which stands at 0 in the call data, is loaded
 // where it is looked at.
+#[tactic(auto, using(crate::proofs::Heads::head_guarded, crate::proofs::Heads::head_none, crate::proofs::Heads::head_some, crate::proofs::Heads::head_least, crate::proofs::Heads::put_load, crate::proofs::Heads::put_guarded))]
 pub fn put_head(out: &mut [u8], a: u32, n: u32) -> usize
     requires { 8 * length (head_code (named_architecture a) (guards_by a) n) ≤ length out.old }
     ensures { (out.new ≡ place out.old 0 (filter_bytes (head_code (named_architecture a) (guards_by a) n)))
@@ -65,11 +68,11 @@ pub fn put_head(out: &mut [u8], a: u32, n: u32) -> usize
     if set_view::guards(a) {
         bpf::put(out, 24, load(0));
         put_guard(out);
-        return 56;
+        56
+    } else if n == 0 {
+        24
+    } else {
+        bpf::put(out, 24, load(0));
+        32
     }
-    if n == 0 {
-        return 24;
-    }
-    bpf::put(out, 24, load(0));
-    32
 }

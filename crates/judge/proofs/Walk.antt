@@ -3,11 +3,14 @@
 use mathlib.Core.Path.{◌≡◌, refl, ap, sym, ◌∙◌}
 use mathlib.Core.Bool.{Bool, true, false, cond, not, ◌&&◌}
 use mathlib.Core.List.{List, [], ◌∷◌}
-use mathlib.Core.Option.{Option, none, some}
+use mathlib.Core.Option as math
+use mathlib.Core.Option.{none, some}
 use Prim.Native.Nat.{ℕ, zero, suc, ◌+◌, ◌-◌, ◌*◌, ◌/◌, ◌≤◌, ◌<◌}
 use native.Mathlib.Omega.{arith}
 use lib.Dec.{eqb, leb, ltb}
 use lib.ListN.{length}
+use Rattle.std.specs.Prelude.{Some, None}
+use Rattle.std.proofs.lemmas.Option.{same_Some, none-some}
 use borrow.Author.Tests.{leb-true, leb-false, ltb-true, ltb-false, eqb-true, le-leb, lt-leb, eq-eqb, ne_eqb, le-ltb}
 use Rattle.definitions.specs.declared.Fault.{Fault}
 use Rattle.definitions.specs.Word.{number_at}
@@ -20,17 +23,14 @@ use Rattle.set_view.proofs.Walk.{parts_many}
 use Rattle.set_view.proofs.Agree.{conditions_agree, rules_agree}
 use Rattle.judge.specs.declared.Scan.{Scan}
 use Rattle.judge.specs.declared.Turn.{Turn}
-use Rattle.judge.specs.Walk.{Sum, sum, total, tells, told, tell_condition, conditions_start, tell_rule, tell_entry, not_there, scan_of, Scanned, plain_there, run_fits, entries_told, turn_sum, Turned, no_turn}
+use Rattle.judge.specs.Walk.{Sum, sum, total, tells, told, tell_condition, conditions_start, tell_rule, tell_entry, scan_of, Scanned, plain_there, run_fits, entries_told, told_from, Turned, turn_of}
 
 -- ---- a loop over parts, whatever they are
 
 less : (n : ℕ) → suc n - 1 ≡ n
 less n = omega arith
 
-pub whole : (n : ℕ) → n - n ≡ 0
-whole n = omega arith
-
-module _ {A : Type 0} (tell : ℕ → A → Sum → Sum) (f : ℕ → Option (Read A)) where
+module _ {A : Type 0} (tell : ℕ → A → Sum → Sum) (f : ℕ → math.Option (Read A)) where
   pub walk_end : (i n at : ℕ) (x : Sum) → n ≡ 0 → told (tells tell i) (times f n at) x ≡ some (record { value = x; past = at })
   unfolding times tells
   walk_end i n at x e = rw e
@@ -40,7 +40,7 @@ module _ {A : Type 0} (tell : ℕ → A → Sum → Sum) (f : ℕ → Option (Re
   walk_stop i zero at x h e = absurd (h refl)
   walk_stop i (suc n) at x h e = rw e
 
-  one_more : (i : ℕ) (a : A) (y : Option (Read (List A))) (x : Sum)
+  one_more : (i : ℕ) (a : A) (y : math.Option (Read (List A))) (x : Sum)
       → told (tells tell i) (then y (λ more. some (record { value = a ∷ more.value; past = more.past }))) x ≡ told (tells tell (suc i)) y (tell i a x)
   unfolding tells
   one_more i a none x = refl
@@ -59,17 +59,35 @@ module _ {A : Type 0} (tell : ℕ → A → Sum → Sum) (f : ℕ → Option (Re
       let i : all - (n - 1) ≡ suc (all - n) = omega arith in
       rw i (walk_on (all - n) n at x r h e)
 
+  -- the loop's turn i, of n
+  pub turn_made : (i n at : ℕ) (x : Sum) (r : Read A) → i < n → f at ≡ some r
+      → told (tells tell i) (times f (n - i) at) x ≡ told (tells tell (i + 1)) (times f (n - (i + 1)) r.past) (tell i r.value x)
+  turn_made i n at x r h e =
+      let j : i + 1 ≡ suc i = omega arith in
+      let k : n - suc i ≡ n - i - 1 = omega arith in
+      rw (j, k) (walk_on i (n - i) at x r (λ z. omega arith) e)
+
+  pub turn_broken : (i n at : ℕ) (x : Sum) → i < n → f at ≡ none → told (tells tell i) (times f (n - i) at) x ≡ none
+  turn_broken i n at x h e = walk_stop i (n - i) at x (λ z. omega arith) e
+
+  pub turns_over : (i n at : ℕ) (x : Sum) → n ≤ i → told (tells tell i) (times f (n - i) at) x ≡ some (record { value = x; past = at })
+  turns_over i n at x h = walk_end i (n - i) at x (omega arith)
+
 -- ---- what a walk returns
 
 -- it broke off, where nothing is there to be found
-pub broken_off : {found : Option (Read Sum)} {r : Scan} (size : ℕ) → r ≡ not_there → found ≡ none → Scanned found size r
-broken_off size p q =
-    record { same = p ∙ sym (ap scan_of q); inside = λ e. absurd (let o = ap (λ (x : Scan). x.ok) p in let z : ◌≡◌ {A = ℕ} 0 1 = cc in omega arith) }
+pub broken_off : {found : math.Option (Read Sum)} (size : ℕ) → found ≡ none → Scanned found size None
+broken_off size e = record { same = sym (ap scan_of e); inside = tt }
+
+-- it came to the end
+pub came_through : {found : math.Option (Read Sum)} {r : Read Sum} (size : ℕ) → found ≡ some r → r.past ≤ size → r.value.count ≤ r.past
+    → Scanned found size (scan_of (some r))
+came_through size e h k = record { same = sym (ap scan_of e); inside = (h, k) }
 
 -- ---- a rule, from its conditions
 
 module _ (e r : ℕ) (x : Sum) where
-  rule_by : (s : List ℕ) (n at : ℕ) (y : Option (Read Rule)) → times (condition_at s) n at ≡ y
+  rule_by : (s : List ℕ) (n at : ℕ) (y : math.Option (Read Rule)) → times (condition_at s) n at ≡ y
       → scan_of (told (tell_rule e r) y x)
       ≡ scan_of (told (tells (tell_condition e r) 0) y (conditions_start (x.count + 3) (least_of x.fault (count_faults e r n))))
   unfolding tell_rule
@@ -89,18 +107,15 @@ unfolding rule_at
 rule_short s at h = rw (lt-leb (at + 4) (length s) h)
 
 -- a rule that is not there, and one that is
-rule_none : (e i : ℕ) (y : Option (Read Rule)) (x : Sum) → (scan_of (told (tell_rule e i) y x)).ok ≡ false → y ≡ none
-rule_none e i none x h = refl
-rule_none e i (some z) x h = cc
+pub rule_stop : (e i : ℕ) (y : math.Option (Read Rule)) (x : Sum) → None ≡ scan_of (told (tell_rule e i) y x) → y ≡ none
+rule_stop e i none x p = refl
+rule_stop e i (some z) x p = absurd (none-some _ p)
 
-pub rule_stop : (e i : ℕ) (y : Option (Read Rule)) (x : Sum) (r : Scan) → r ≡ scan_of (told (tell_rule e i) y x) → r.ok ≡ false → y ≡ none
-rule_stop e i y x r p h = rule_none e i y x (sym (ap (λ (z : Scan). z.ok) p) ∙ h)
-
-pub rule_there : (e i : ℕ) (y : Option (Read Rule)) (x : Sum) (r : Scan) → r ≡ scan_of (told (tell_rule e i) y x) → r.ok ≡ true
+pub rule_there : (e i : ℕ) (y : math.Option (Read Rule)) (x : Sum) (r : Scan) → Some r ≡ scan_of (told (tell_rule e i) y x)
     → (z : Read Rule) × (y ≡ some z) × (r.past ≡ z.past) × (tell_rule e i z.value x ≡ total r.count r.fault)
 unfolding tell_rule
-rule_there e i none x r p h = absurd (let o = ap (λ (z : Scan). z.ok) p in let z : ◌≡◌ {A = ℕ} 0 1 = cc in omega arith)
-rule_there e i (some z) x r p h = (z, refl, ap (λ (z : Scan). z.past) p, rw p)
+rule_there e i none x r p = absurd (none-some r (sym p))
+rule_there e i (some z) x r p = let q = same_Some r _ p in (z, refl, ap (λ (z : Scan). z.past) q, rw q)
 
 -- ---- an entry, from its rules
 
@@ -114,7 +129,7 @@ unfolding entry_at
 entry_short s at h = rw (lt-leb (at + 8) (length s) h)
 
 module _ (s : List ℕ) (at : ℕ) (room : at + 8 ≤ length s) where
-  abbrev entry_read : Option (Read (List Rule)) → Option (Read Entry)
+  abbrev entry_read : math.Option (Read (List Rule)) → math.Option (Read Entry)
   entry_read y = then y (λ rules. some (record { value = record { number = number_at 4 s at; rules = rules.value }; past = rules.past }))
 
   entry_read_lem : entry_at s at ≡ entry_read (times (rule_at s) (number_at 4 s (at + 4)) (at + 8))
@@ -125,27 +140,28 @@ module _ (s : List ℕ) (at : ℕ) (room : at + 8 ≤ length s) where
   abbrev rules_start : ℕ → Sum → Sum
   rules_start i x = total (x.count + cond (eqb (number_at 4 s (at + 4)) 0) 5 2) (least_of x.fault (unless (leb x.carried (number_at 4 s at)) (fault 2 i nowhere nowhere)))
 
-  module _ (i : ℕ) (x : Sum) (r : Scan) where
-    stop_by : (y : Option (Read (List Rule))) → r ≡ scan_of (told (tells (tell_rule i) 0) y (rules_start i x)) → r.ok ≡ false → entry_read y ≡ none
-    stop_by none p h = refl
-    stop_by (some z) p h = absurd (let o = ap (λ (z : Scan). z.ok) p in let z : ◌≡◌ {A = ℕ} 0 1 = cc in omega arith)
+  module _ (i : ℕ) (x : Sum) where
+    stop_by : (y : math.Option (Read (List Rule))) → None ≡ scan_of (told (tells (tell_rule i) 0) y (rules_start i x)) → entry_read y ≡ none
+    stop_by none p = refl
+    stop_by (some z) p = absurd (none-some _ p)
 
-    pub entry_stop : r ≡ scan_of (told (tells (tell_rule i) 0) (times (rule_at s) (number_at 4 s (at + 4)) (at + 8)) (rules_start i x)) → r.ok ≡ false → entry_at s at ≡ none
-    entry_stop p h = entry_read_lem ∙ stop_by (times (rule_at s) (number_at 4 s (at + 4)) (at + 8)) p h
+    pub entry_stop : None ≡ scan_of (told (tells (tell_rule i) 0) (times (rule_at s) (number_at 4 s (at + 4)) (at + 8)) (rules_start i x)) → entry_at s at ≡ none
+    entry_stop p = entry_read_lem ∙ stop_by (times (rule_at s) (number_at 4 s (at + 4)) (at + 8)) p
 
-    there_by : (y : Option (Read (List Rule))) → times (rule_at s) (number_at 4 s (at + 4)) (at + 8) ≡ y → r ≡ scan_of (told (tells (tell_rule i) 0) y (rules_start i x)) → r.ok ≡ true
+    there_by : (r : Scan) (y : math.Option (Read (List Rule))) → times (rule_at s) (number_at 4 s (at + 4)) (at + 8) ≡ y → Some r ≡ scan_of (told (tells (tell_rule i) 0) y (rules_start i x))
         → (z : Read Entry) × (entry_read y ≡ some z) × (r.past ≡ z.past)
         × (tell_entry i z.value x ≡ sum r.count (number_at 4 s at + 1) (cond (ltb r.count too_many) (suc i) x.fits) r.fault)
     unfolding tell_entry
-    there_by none q p h = absurd (let o = ap (λ (z : Scan). z.ok) p in let z : ◌≡◌ {A = ℕ} 0 1 = cc in omega arith)
-    there_by (some z) q p h =
+    there_by r none q p = absurd (none-some r (sym p))
+    there_by r (some z) q p =
+        let e = same_Some r _ p in
         let empty : no_rules z.value ≡ eqb (number_at 4 s (at + 4)) 0 = ap no_rules (rules_agree s (number_at 4 s (at + 4)) (at + 8) q).0 ∙ none_here s (number_at 4 s (at + 4)) (at + 8) in
-        (record { value = record { number = number_at 4 s at; rules = z.value }; past = z.past }, refl, ap (λ (z : Scan). z.past) p, rw (p, empty))
+        (record { value = record { number = number_at 4 s at; rules = z.value }; past = z.past }, refl, ap (λ (z : Scan). z.past) e, rw (e, empty))
 
-    pub entry_there : r ≡ scan_of (told (tells (tell_rule i) 0) (times (rule_at s) (number_at 4 s (at + 4)) (at + 8)) (rules_start i x)) → r.ok ≡ true
+    pub entry_there : (r : Scan) → Some r ≡ scan_of (told (tells (tell_rule i) 0) (times (rule_at s) (number_at 4 s (at + 4)) (at + 8)) (rules_start i x))
         → (z : Read Entry) × (entry_at s at ≡ some z) × (r.past ≡ z.past)
         × (tell_entry i z.value x ≡ sum r.count (number_at 4 s at + 1) (cond (ltb r.count too_many) (suc i) x.fits) r.fault)
-    entry_there p h = rw entry_read_lem (there_by (times (rule_at s) (number_at 4 s (at + 4)) (at + 8)) refl p h)
+    entry_there r p = rw entry_read_lem (there_by r (times (rule_at s) (number_at 4 s (at + 4)) (at + 8)) refl p)
 
   -- one without rules
   plain_entry : number_at 4 s (at + 4) ≡ 0 → entry_at s at ≡ some (record { value = record { number = number_at 4 s at; rules = [] }; past = at + 8 })
@@ -230,14 +246,11 @@ pub entry_turn : (s : List ℕ) (all n at : ℕ) (x : Sum) (z : Read Entry) (r :
 entry_turn s all n at x z r h l e p q = walk_turn tell_entry (entry_at s) all n at x z h l e ∙ rw (q, p, next all n h l)
 
 -- a turn that found nothing
-pub turn_none : (s : List ℕ) (all n at : ℕ) (x : Sum) (r : Turn) → r ≡ no_turn → (n ≡ 0 → ⊥) → entry_at s at ≡ none → Turned s all n at x r
-turn_none s all n at x r p h e =
-    let o : r.ok ≡ false = ap (λ (z : Turn). z.ok) p in
-    record { same = rw o (walk_stop tell_entry (entry_at s) (all - n) n at x h e); inside = λ t. absurd (let z : ◌≡◌ {A = ℕ} 0 1 = cc in omega arith) }
+pub turn_none : (s : List ℕ) (all : ℕ) (t : Turn) → (t.left ≡ 0 → ⊥) → entry_at s t.past ≡ none → Turned s all t None
+turn_none s all t h e = walk_stop tell_entry (entry_at s) (all - t.left) t.left t.past (sum t.count t.least t.fits t.fault) h e
 
-pub turn_off : {s : List ℕ} {all n at : ℕ} {x : Sum} {r : Turn} → Turned s all n at x r → r.ok ≡ false → entries_told s all n at x ≡ none
-turn_off {s} {all} {n} {at} {x} {r} t h = rw h at t.same
-
-pub turn_on : {s : List ℕ} {all n at : ℕ} {x : Sum} {r : Turn} → Turned s all n at x r → r.ok ≡ true
-    → entries_told s all n at x ≡ entries_told s all r.left r.past (turn_sum r)
-turn_on {s} {all} {n} {at} {x} {r} t h = rw h at t.same
+-- no entry is left
+pub turns_done : (s : List ℕ) (all : ℕ) (t : Turn) → t.left ≡ 0 → Some t ≡ turn_of (told_from s all t)
+turns_done s all t e =
+    rw (walk_end tell_entry (entry_at s) (all - t.left) t.left t.past (sum t.count t.least t.fits t.fault) e)
+    (ap (λ (n : ℕ). Some (record { left = n; least = t.least; past = t.past; count = t.count; fits = t.fits; fault = t.fault })) e)

@@ -2,13 +2,16 @@
 use mathlib.Core.Path.{◌≡◌, refl, ap, sym, ◌∙◌}
 use mathlib.Core.Bool.{Bool, true, false, cond, not, ◌&&◌}
 use mathlib.Core.List.{List, [], ◌∷◌}
-use mathlib.Core.Option.{Option, none, some}
-use Prim.Native.Nat.{ℕ, zero, suc, ◌+◌, ◌-◌, ◌≤◌}
+use mathlib.Core.Option as math
+use mathlib.Core.Option.{none, some}
+use Prim.Native.Nat.{ℕ, zero, suc, ◌+◌, ◌-◌, ◌≤◌, ◌<◌}
 use native.Mathlib.Nat.{add-zero, zero-add}
 use native.Mathlib.Omega.{arith}
 use lib.Dec.{eqb, leb}
 use lib.ListN.{length}
-use borrow.Author.Tests.{ne_eqb, eq-eqb}
+use Rattle.std.specs.Prelude.{Some, None}
+use Rattle.std.proofs.lemmas.Option.{same_Some, none-some}
+use borrow.Author.Tests.{ne_eqb, eq-eqb, le-leb, lt-leb}
 use Rattle.definitions.specs.declared.Fault.{Fault}
 use Rattle.definitions.specs.Word.{number_at}
 use Rattle.definitions.specs.RuleSet.{Architecture, Entry, RuleSet, guarded, is_action}
@@ -37,10 +40,10 @@ set_with s es =
       entries = es;
     }
 
-abbrev entries_read : List ℕ → Option (Read (List Entry)) → Option RuleSet
+abbrev entries_read : List ℕ → math.Option (Read (List Entry)) → math.Option RuleSet
 entries_read s x = then x (λ es. check (eqb es.past (length s)) (some (set_with s es.value)))
 
-read_by : (s : List ℕ) (a b c d : Bool) (x : Option (Read (List Entry))) (arch : Option Architecture) → ((w : Architecture) → arch ≡ some w → w ≡ named_architecture (number_at 4 s 0))
+read_by : (s : List ℕ) (a b c d : Bool) (x : math.Option (Read (List Entry))) (arch : math.Option Architecture) → ((w : Architecture) → arch ≡ some w → w ≡ named_architecture (number_at 4 s 0))
     → check (a && b && c && d) (then arch (λ w. then x (λ es. check (eqb es.past (length s))
     (some (record { architecture = w; native_only = native_of (number_at 4 s 0); mismatch = number_at 4 s 4; on_match = number_at 4 s 8; entries = es.value })))))
     ≡ check a (check b (check (is_there arch && (c && d)) (entries_read s x)))
@@ -109,46 +112,50 @@ judged_with s es h =
     (ap (λ (k : ℕ). record { fault = least_of f (entries_faults 0 0 es); count = k; long = fitting (around rs) es }) (omega arith))
 
 -- from what the walk over the entries found
-judged_by : (s : List ℕ) (x : Option (Read (List Entry))) → times (entry_at s) (number_at 4 s 12) 16 ≡ x → (r : Turn) → r ≡ turn_of (told (tells tell_entry 0) x (front s))
-    → (r.ok ≡ false → entries_read s x ≡ none)
-    × (r.ok ≡ true → (r.past ≡ length s → ⊥) → entries_read s x ≡ none)
-    × (r.ok ≡ true → r.past ≡ length s → judged (entries_read s x) ≡ record { fault = r.fault; count = r.count; long = r.fits })
-judged_by s none e r p = (λ h. refl, λ h n. refl, λ h n. absurd (let o = ap (λ (z : Turn). z.ok) p in let z : ◌≡◌ {A = ℕ} 0 1 = cc in omega arith))
-judged_by s (some z) e r p = (
-  λ h. absurd (let o = ap (λ (z : Turn). z.ok) p in let z : ◌≡◌ {A = ℕ} 0 1 = cc in omega arith),
-  λ h n. let q = ap (λ (z : Turn). z.past) p in rw (ne_eqb z.past (length s) (λ w. n (q ∙ w))),
-  λ h n.
-      let q = ap (λ (z : Turn). z.past) p in
+module _ (s : List ℕ) where
+  off_by : (x : math.Option (Read (List Entry))) → None ≡ turn_of (told (tells tell_entry 0) x (front s)) → entries_read s x ≡ none
+  off_by none p = refl
+  off_by (some z) p = absurd (none-some _ p)
+
+  more_by : (t : Turn) (x : math.Option (Read (List Entry))) → Some t ≡ turn_of (told (tells tell_entry 0) x (front s)) → (t.past ≡ length s → ⊥) → entries_read s x ≡ none
+  more_by t none p n = refl
+  more_by t (some z) p n = let q = ap (λ (z : Turn). z.past) (same_Some t _ p) in rw (ne_eqb z.past (length s) (λ w. n (q ∙ w)))
+
+  all_by : (t : Turn) (x : math.Option (Read (List Entry))) → times (entry_at s) (number_at 4 s 12) 16 ≡ x → Some t ≡ turn_of (told (tells tell_entry 0) x (front s))
+      → t.past ≡ length s → judged (entries_read s x) ≡ record { fault = t.fault; count = t.count; long = t.fits }
+  all_by t none e p n = absurd (none-some t (sym p))
+  all_by t (some z) e p n =
+      let same = same_Some t _ p in
+      let q = ap (λ (z : Turn). z.past) same in
       let many : length z.value ≡ number_at 4 s 12 = ap length (entries_agree s (number_at 4 s 12) 16 e).0 ∙ parts_many (entry_here s) (entry_past s) (number_at 4 s 12) 16 in
-      rw (eq-eqb z.past (length s) (sym q ∙ n)) (judged_with s z.value many ∙ rw p),
-)
+      rw (eq-eqb z.past (length s) (sym q ∙ n)) (judged_with s z.value many ∙ rw same)
 
-module _ (s : List ℕ) (r : Turn) (size : leb (length s) most_bytes ≡ true) (long : leb 16 (length s) ≡ true) (head : head_taken s ≡ true)
-    (p : r ≡ turn_of (entries_told s (number_at 4 s 12) (number_at 4 s 12) 16 (front s))) where
-  from_zero : r ≡ turn_of (told (tells tell_entry 0) (times (entry_at s) (number_at 4 s 12) 16) (front s))
-  from_zero = p ∙ (let z : number_at 4 s 12 - number_at 4 s 12 ≡ 0 = omega arith in rw z)
+  module _ (size : length s ≤ most_bytes) (long : 16 ≤ length s) (head : head_taken s ≡ true) where
+    reading : read s ≡ entries_read s (times (entry_at s) (number_at 4 s 12) 16)
+    reading = rw (read_is s, le-leb _ _ size, le-leb _ _ long, head)
 
-  reading : read s ≡ entries_read s (times (entry_at s) (number_at 4 s 12) 16)
-  reading = rw (read_is s, size, long, head)
+    from_zero : entries_told s (number_at 4 s 12) (number_at 4 s 12) 16 (front s) ≡ told (tells tell_entry 0) (times (entry_at s) (number_at 4 s 12) 16) (front s)
+    from_zero = let z : number_at 4 s 12 - number_at 4 s 12 ≡ 0 = omega arith in rw z
 
-  pub entries_off : r.ok ≡ false → read s ≡ none
-  entries_off h = reading ∙ (judged_by s (times (entry_at s) (number_at 4 s 12) 16) refl r from_zero).0 h
+    pub entries_off : None ≡ turn_of (entries_told s (number_at 4 s 12) (number_at 4 s 12) 16 (front s)) → read s ≡ none
+    entries_off p = reading ∙ off_by (times (entry_at s) (number_at 4 s 12) 16) (p ∙ ap turn_of from_zero)
 
-  pub entries_more : r.ok ≡ true → (r.past ≡ length s → ⊥) → read s ≡ none
-  entries_more h n = reading ∙ (judged_by s (times (entry_at s) (number_at 4 s 12) 16) refl r from_zero).1 h n
+    module _ (t : Turn) (p : Some t ≡ turn_of (entries_told s (number_at 4 s 12) (number_at 4 s 12) 16 (front s))) where
+      pub entries_more : (t.past ≡ length s → ⊥) → read s ≡ none
+      entries_more n = reading ∙ more_by t (times (entry_at s) (number_at 4 s 12) 16) (p ∙ ap turn_of from_zero) n
 
-  pub entries_all : r.ok ≡ true → r.past ≡ length s → judged (read s) ≡ record { fault = r.fault; count = r.count; long = r.fits }
-  entries_all h n = ap judged reading ∙ (judged_by s (times (entry_at s) (number_at 4 s 12) 16) refl r from_zero).2 h n
+      pub entries_all : t.past ≡ length s → judged (read s) ≡ record { fault = t.fault; count = t.count; long = t.fits }
+      entries_all n = ap judged reading ∙ all_by t (times (entry_at s) (number_at 4 s 12) 16) refl (p ∙ ap turn_of from_zero) n
 
 -- where a test fails, nothing is read
-pub too_many : (s : List ℕ) → leb (length s) most_bytes ≡ false → read s ≡ none
-too_many s h = rw (read_is s, h)
+pub too_many : (s : List ℕ) → most_bytes < length s → read s ≡ none
+too_many s h = rw (read_is s, lt-leb _ _ h)
 
-pub too_few : (s : List ℕ) → leb (length s) most_bytes ≡ true → leb 16 (length s) ≡ false → read s ≡ none
-too_few s a h = rw (read_is s, a, h)
+pub too_few : (s : List ℕ) → length s ≤ most_bytes → length s < 16 → read s ≡ none
+too_few s a h = rw (read_is s, le-leb _ _ a, lt-leb _ _ h)
 
-pub no_head_lem : (s : List ℕ) → leb (length s) most_bytes ≡ true → leb 16 (length s) ≡ true → head_taken s ≡ false → read s ≡ none
-no_head_lem s a b h = rw (read_is s, a, b, h)
+pub no_head_lem : (s : List ℕ) → length s ≤ most_bytes → 16 ≤ length s → head_taken s ≡ false → read s ≡ none
+no_head_lem s a b h = rw (read_is s, le-leb _ _ a, le-leb _ _ b, h)
 
 pub none_said : (s : List ℕ) (r : Judged) → r ≡ judged none → read s ≡ none → (r ≡ judged (read s)) × (r.count ≤ most_bytes)
 unfolding judged

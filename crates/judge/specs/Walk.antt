@@ -1,16 +1,18 @@
 -- What a walk over a part of a rule set's bytes has to find, said by what the format's reader gives there: instructions counted and faults
 -- noted on top of what was found before, so that a loop's invariant is one equation. Each kind of part says what it adds; all else is
 -- the same for all.
-use Rattle.std.specs.Prelude.{ℕ, suc, ◌+◌, ◌-◌, ◌/◌, ◌≤◌, ◌<◌, ◌≡◌, Bool, true, false, cond, not, ◌&&◌, List, [], ◌∷◌, eqb, leb, ltb, length}
-use Rattle.std.proofs.Math.Option.{Option, none, some}
+use Rattle.std.specs.Prelude.{ℕ, suc, ◌+◌, ◌-◌, ◌/◌, ◌≤◌, ◌<◌, ◌≡◌, Bool, cond, not, ◌&&◌, List, [], ◌∷◌, eqb, leb, ltb, length, Option, Some, None, IfSome, MatchOption}
+use Rattle.std.proofs.Math.Option as math
+use Rattle.std.proofs.Math.Option.{none, some}
 use Rattle.definitions.specs.declared.Condition.{Condition}
 use Rattle.definitions.specs.declared.Fault.{Fault}
 use Rattle.definitions.specs.Word.{number_at}
 use Rattle.definitions.specs.RuleSet.{Rule, Entry, RuleSet, no_rules}
 use Rattle.definitions.specs.Emitted.{step_code, step_distance}
 use Rattle.definitions.specs.Format.{Read, times, entry_at}
-use Rattle.definitions.specs.Answer.{fault, nowhere, placeless, no_fault, unless, condition_faults, count_faults, too_many, too_long, least_of, refusal}
+use Rattle.definitions.specs.Answer.{fault, nowhere, placeless, unless, condition_faults, count_faults, too_many, too_long, least_of, refusal}
 use Rattle.theorems.specs.Length.{filter_length}
+use Rattle.set_view.specs.Parts.{most_bytes}
 use Rattle.judge.specs.declared.Scan.{Scan}
 use Rattle.judge.specs.declared.Turn.{Turn}
 use Rattle.judge.specs.declared.Judged.{Judged}
@@ -38,7 +40,7 @@ tells tell i [] x = x
 tells tell i (a ∷ others) x = tells tell (suc i) others (tell i a x)
 
 -- what was read, and is told
-abbrev pub told : {A : Type 0} → (A → Sum → Sum) → Option (Read A) → Sum → Option (Read Sum)
+abbrev pub told : {A : Type 0} → (A → Sum → Sum) → math.Option (Read A) → Sum → math.Option (Read Sum)
 told tell none x = none
 told tell (some r) x = some (record { value = tell r.value x; past = r.past })
 
@@ -66,17 +68,19 @@ tell_entry i e x =
 
 -- ---- what the walks return
 
-abbrev pub not_there : Scan
-not_there = record { ok = false; past = 0; count = 0; fault = no_fault }
+-- None exactly where the format's reader has none
+abbrev pub scan_of : math.Option (Read Sum) → Option Scan
+scan_of none = None
+scan_of (some r) = Some (record { past = r.past; count = r.value.count; fault = r.value.fault })
 
-abbrev pub scan_of : Option (Read Sum) → Scan
-scan_of none = not_there
-scan_of (some r) = record { ok = true; past = r.past; count = r.value.count; fault = r.value.fault }
+-- a place in a set, with no more instructions in front of it than bytes
+abbrev pub Inside : List ℕ → ℕ → ℕ → Type 0
+Inside s past count = (past ≤ length s) × (length s ≤ most_bytes) × (count ≤ past)
 
 -- in so many bytes: there are no more instructions than bytes
-pub record Scanned (found : Option (Read Sum)) (size : ℕ) (r : Scan) : Type 0 where
+pub record Scanned (found : math.Option (Read Sum)) (size : ℕ) (r : Option Scan) : Type 0 where
   pub same : r ≡ scan_of found
-  pub inside : r.ok ≡ true → (r.past ≤ size) × (r.count ≤ r.past)
+  pub inside : IfSome r (λ x. (x.past ≤ size) × (x.count ≤ x.past))
 
 -- whether one of n entries is left at a place, without rules and with a number that may come next
 unfoldable pub plain_there : List ℕ → ℕ → ℕ → ℕ → Bool
@@ -90,26 +94,29 @@ run_fits all n left before fitted =
     (cond (leb (n - left) ((4096 - before) / 5)) (all - left) (all - n + (4096 - before) / 5))
 
 -- the last n of so many entries, from a place
-abbrev pub entries_told : List ℕ → ℕ → ℕ → ℕ → Sum → Option (Read Sum)
+abbrev pub entries_told : List ℕ → ℕ → ℕ → ℕ → Sum → math.Option (Read Sum)
 entries_told s all n at = told (tells tell_entry (all - n)) (times (entry_at s) n at)
 
-abbrev pub turn_sum : Turn → Sum
-turn_sum r = sum r.count r.least r.fits r.fault
+-- the entries that are left, from what was found up to them
+abbrev pub told_from : List ℕ → ℕ → Turn → math.Option (Read Sum)
+told_from s all t = entries_told s all t.left t.past (sum t.count t.least t.fits t.fault)
 
--- the last n of so many entries, from what a turn found of the first of them
-pub record Turned (s : List ℕ) (all n at : ℕ) (x : Sum) (r : Turn) : Type 0 where
-  pub same : entries_told s all n at x ≡ cond r.ok (entries_told s all r.left r.past (turn_sum r)) none
-  pub inside : r.ok ≡ true → (r.past ≤ length s) × (r.count ≤ r.past) × (r.left < n)
+-- a turn led from t to r: what is left then, told on top of what was found, is what was left before
+pub record Stepped (s : List ℕ) (all : ℕ) (t r : Turn) : Type 0 where
+  pub same : told_from s all t ≡ told_from s all r
+  pub inside : (r.past ≤ length s) × (r.count ≤ r.past)
+  pub fewer : r.left < t.left
 
-abbrev pub no_turn : Turn
-no_turn = record { ok = false; left = 0; least = 0; past = 0; count = 0; fits = 0; fault = no_fault }
+-- or it broke off, where the format's reader has none
+abbrev pub Turned : List ℕ → ℕ → Turn → Option Turn → Type 0
+Turned s all t r = MatchOption r (told_from s all t ≡ none) (Stepped s all t)
 
 -- all entries
-abbrev pub turn_of : Option (Read Sum) → Turn
-turn_of none = no_turn
-turn_of (some r) = record { ok = true; left = 0; least = r.value.carried; past = r.past; count = r.value.count; fits = r.value.fits; fault = r.value.fault }
+abbrev pub turn_of : math.Option (Read Sum) → Option Turn
+turn_of none = None
+turn_of (some r) = Some (record { left = 0; least = r.value.carried; past = r.past; count = r.value.count; fits = r.value.fits; fault = r.value.fault })
 
 -- what is said of a set, by the rule set that is read from it
-unfoldable pub judged : Option RuleSet → Judged
+unfoldable pub judged : math.Option RuleSet → Judged
 judged none = record { fault = placeless 1; count = 0; long = 0 }
 judged (some rs) = record { fault = refusal rs; count = filter_length rs; long = too_long rs }

@@ -1,11 +1,12 @@
 -- Laws of many calls' outcomes in a buffer: the one that is put is read back, those in front of it stay, and so does all behind it.
 use mathlib.Core.Path.{◌≡◌, refl, ap, sym, ◌∙◌}
 use mathlib.Core.Bool.{Bool, true, false, cond}
-use mathlib.Core.List.{List, ◌++◌, append_assoc}
-use Prim.Native.Nat.{ℕ, ◌+◌, ◌-◌, ◌*◌, ◌%◌, ◌^◌, ◌≤◌, ◌<◌}
+use mathlib.Core.List.{List, [], ◌++◌, append_assoc}
+use Prim.Native.Nat.{ℕ, zero, suc, ◌+◌, ◌*◌, ◌%◌, ◌^◌, ◌≤◌, ◌<◌}
 use native.Mathlib.Omega.{arith}
+use Rattle.std.specs.Simd.{first_chunks}
 use lib.Dec.{eqb, leb}
-use lib.ListN.{length, take, drop, length-take, length-drop, length-append, take-append-drop}
+use lib.ListN.{length, get_or, take, drop, length-drop, length-append, take-append-drop}
 use lib.Seq.{length-take-le, take-append-le, drop-append-le, drop-drop}
 use borrow.Author.Tests.{eq-eqb, eqb-true, eqb-false, leb-true}
 use Rattle.definitions.specs.declared.Outcome.{Outcome}
@@ -16,7 +17,7 @@ use Rattle.definitions.specs.Outcome.{ended, outcome_of, call_in, outcome_in, ou
 use Rattle.theorems.proofs.Words.{length_bytes, number_here, number_past, number_front}
 use Rattle.theorems.proofs.Answered.{answered}
 use Rattle.bpf.specs.Place.{place}
-use Rattle.bpf.proofs.Buffer.{length_place, drop_place}
+use Rattle.bpf.proofs.Buffer.{drop_place}
 use Rattle.machine.specs.Outcomes.{outcome_bytes, Put}
 
 -- ---- numbers in a buffer
@@ -51,33 +52,33 @@ module _ (l : List ℕ) (at a b : ℕ) (room : at + 8 ≤ length l) where
 pub length_outcome : (o : Outcome) → length (outcome_bytes o) ≡ 8
 length_outcome o = simp (length-append, length_bytes)
 
--- the part of the bytes that is a call
-pub part_call : (calls : List ℕ) (i : ℕ) → take (64 * i + 64 - 64 * i) (drop (64 * i) calls) ≡ call_in calls i
-part_call calls i = let n : 64 * i + 64 - 64 * i ≡ 64 = omega arith in rw n
+-- the array with that number is the call with that number
+pub chunk_in : (k i : ℕ) (calls : List ℕ) → i < k → get_or (first_chunks 64 k calls) i [] ≡ call_in calls i
+chunk_in zero i calls h = absurd (omega arith)
+chunk_in (suc k) zero calls h = refl
+chunk_in (suc k) (suc i) calls h =
+    let n : 64 * suc i ≡ 64 + 64 * i = omega arith in
+    chunk_in k i (drop 64 calls) (omega arith) ∙ rw (n, ← drop-drop (64 * i) 64 calls)
 
 -- what a run came to, put at its place
-pub put_one : (filter calls : List ℕ) (i : ℕ) (before after call : List ℕ) (o : Outcome)
-    → accepts_bytes filter ≡ true → call ≡ call_in calls i → 64 * i + 64 ≤ length calls
+pub put_one : (filter call : List ℕ) (i : ℕ) (before after : List ℕ) (o : Outcome)
+    → accepts_bytes filter ≡ true → length call ≡ 64
     → o ≡ ended (runs (filter_of filter) (call_of call)) (steps (filter_of filter) (call_of call))
     → o.action < 2 ^ 32 → o.steps < 2 ^ 32
-    → 8 * i + 8 ≤ length before → after ≡ place before (8 * i) (outcome_bytes o) → Put filter calls i before after
+    → 8 * i + 8 ≤ length before → after ≡ place before (8 * i) (outcome_bytes o) → Put filter call i before after
 unfolding outcome_of
-put_one filter calls i before after call o t e inside ran a s room w =
-    let size : length call ≡ 64 = rw (e, length-take, length-drop) (omega arith) in
+put_one filter call i before after o t size ran a s room w =
     let all : outcome_of filter call ≡ o = rw (eq-eqb (length call) 64 size, t) (sym ran) in
     let there = answered filter call t size in
     let zero : o.code ≡ 0 = ap (λ (x : Outcome). x.code) (sym all ∙ there.1) in
     record {
-      same = rw (← e, all) w;
+      same = rw all w;
       told =
-          rw (← e, all, w, first_there before (8 * i) o.action o.steps room a, second_there before (8 * i) o.action o.steps room s)
+          rw (all, w, first_there before (8 * i) o.action o.steps room a, second_there before (8 * i) o.action o.steps room s)
           (ap (λ (k : ℕ). record { code = k; action = o.action; steps = o.steps }) (sym zero));
     }
 
-module _ (filter calls : List ℕ) (i : ℕ) (before after : List ℕ) (room : 8 * i + 8 ≤ length before) (p : Put filter calls i before after) where
-  pub put_long : length after ≡ length before
-  put_long = rw p.same (length_place before (8 * i) _ (rw length_outcome room))
-
+module _ (filter calls : List ℕ) (i : ℕ) (before after : List ℕ) (room : 8 * i + 8 ≤ length before) (p : Put filter (call_in calls i) i before after) where
   -- what is behind them all is as it was at first
   pub put_behind : (first : List ℕ) → drop (8 * i) before ≡ drop (8 * i) first → drop (8 * (i + 1)) after ≡ drop (8 * (i + 1)) first
   put_behind first e =

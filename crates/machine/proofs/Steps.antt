@@ -3,11 +3,10 @@ use mathlib.Core.Path.{◌≡◌, refl, ap, sym, ◌∙◌}
 use mathlib.Core.Bool.{true, false, ◌&&◌}
 use mathlib.Core.List.{List, [], ◌∷◌}
 use mathlib.Core.Option.{none, some}
-use Prim.Native.Nat.{ℕ, zero, suc, ◌+◌, ◌-◌, ◌*◌, ◌/◌, ◌%◌, ◌^◌, ◌≤◌, ◌<◌}
-use native.Mathlib.Nat.{zero-add, lt_of_le_of_lt, mul-le-mul_left, le_of_lt, mul-lt-mul_of_pos_right}
+use Prim.Native.Nat.{ℕ, zero, suc, ◌+◌, ◌-◌, ◌*◌, ◌/◌, ◌%◌, ◌≤◌, ◌<◌}
+use native.Mathlib.Nat.{zero-add}
 use native.Mathlib.Omega.{arith}
 use lib.Dec.{eqb, ltb}
-use lib.Pow.{pow_pos}
 use lib.ListN.{length, get_or}
 use borrow.Author.Tests.{eqb-true, ltb-true}
 use Rattle.definitions.specs.declared.Instruction.{Instruction}
@@ -17,16 +16,13 @@ use Rattle.definitions.specs.Machine as machine
 use Rattle.theorems.proofs.Tests.{both_true}
 use Rattle.theorems.proofs.Words.{number_at_small}
 use Rattle.bpf.proofs.Buffer.{number_8}
-use Rattle.machine.specs.declared.Way.TheVariants.{Next, Returns, Stuck}
+use Rattle.machine.specs.declared.State.{State}
 use Rattle.machine.specs.declared.Step.{Step}
+use Rattle.machine.specs.declared.Step.TheVariants.{Next, Returns, Stuck}
 use Rattle.definitions.specs.declared.Outcome.{Outcome}
 use Rattle.definitions.specs.Outcome.{refused, ended}
 use Rattle.machine.specs.Run.{state_of, Stepped}
 use Rattle.checks.proofs.Walk.{left_start, left_turn, left_end}
-
--- a product of two 32-bit numbers has 64 bits
-pub product : {a b : ℕ} → a < 2 ^ 32 → b < 2 ^ 32 → a * b < 2 ^ 64
-product {a} {b} ha hb = lt_of_le_of_lt (mul-le-mul_left a (le_of_lt hb)) (mul-lt-mul_of_pos_right ha (pow_pos 32))
 
 -- ---- the words of a call
 
@@ -117,28 +113,28 @@ module _ (i : Instruction) (p : List Instruction) (k : ℕ) (s : machine.State) 
 
 -- ---- the loop, at place p of n
 
-module _ (f : List ℕ) (n p k : ℕ) (s : machine.State) (c : Call) (h : p < n) (i : Instruction) (e : i ≡ instruction_at f (p * 8)) (r : Step) (g : Stepped (step i s c) r) where
-  pub follow_next : (d q : ℕ) → r.way ≡ Next d → q ≡ p + 1 + d
-      → followed k 0 (instructions_at f (n - p) (p * 8)) s c ≡ followed (k + 1) 0 (instructions_at f (n - q) (q * 8)) (state_of r.state) c
+module _ (f : List ℕ) (n p k : ℕ) (s : machine.State) (c : Call) (h : p < n) (i : Instruction) (e : i ≡ instruction_at f (p * 8)) (r : Step) (t : State) (g : Stepped (step i s c) r t) where
+  pub follow_next : (d q : ℕ) → r ≡ Next d → q ≡ p + 1 + d
+      → followed k 0 (instructions_at f (n - p) (p * 8)) s c ≡ followed (k + 1) 0 (instructions_at f (n - q) (q * 8)) (state_of t) c
   follow_next d q w o =
       let a : n - (p + 1) - d ≡ n - q = omega arith in
       let b : (p + 1) * 8 + d * 8 ≡ q * 8 = omega arith in
-      let x : step i s c ≡ next d (state_of r.state) = sym g.same ∙ rw w in
+      let x : step i s c ≡ next d (state_of t) = sym g ∙ rw w in
       rw (left_turn f n p h)
-      (next_followed (instruction_at f (p * 8)) (instructions_at f (n - (p + 1)) ((p + 1) * 8)) k s c d (state_of r.state) (rw (← e) x)
-      ∙ skipped f d (n - (p + 1)) ((p + 1) * 8) (k + 1) (state_of r.state) c
+      (next_followed (instruction_at f (p * 8)) (instructions_at f (n - (p + 1)) ((p + 1) * 8)) k s c d (state_of t) (rw (← e) x)
+      ∙ skipped f d (n - (p + 1)) ((p + 1) * 8) (k + 1) (state_of t) c
       ∙ (rw (a, b)))
 
-  pub follow_returns : (a : ℕ) → r.way ≡ Returns a
+  pub follow_returns : (a : ℕ) → r ≡ Returns a
       → followed k 0 (instructions_at f (n - p) (p * 8)) s c ≡ record { code = 0; action = a; steps = k + 1 }
   follow_returns a w =
-      let x : step i s c ≡ stop (returns a) = sym g.same ∙ rw w in
+      let x : step i s c ≡ stop (returns a) = sym g ∙ rw w in
       rw (left_turn f n p h)
       (stop_followed (instruction_at f (p * 8)) (instructions_at f (n - (p + 1)) ((p + 1) * 8)) k s c (returns a) (rw (← e) x))
 
-  pub follow_stuck : r.way ≡ Stuck → followed k 0 (instructions_at f (n - p) (p * 8)) s c ≡ refused
+  pub follow_stuck : r ≡ Stuck → followed k 0 (instructions_at f (n - p) (p * 8)) s c ≡ refused
   follow_stuck w =
-      let x : step i s c ≡ stop stuck = sym g.same ∙ rw w in
+      let x : step i s c ≡ stop stuck = sym g ∙ rw w in
       rw (left_turn f n p h)
       (stop_followed (instruction_at f (p * 8)) (instructions_at f (n - (p + 1)) ((p + 1) * 8)) k s c stuck (rw (← e) x))
 

@@ -2,39 +2,22 @@
 // beside what a kernel answers for the same bytes.
 #![tactic(auto)]
 
-ghost use Rattle.std.specs.Prelude.{◌≡◌, true, ◌+◌, ◌-◌, ◌*◌, ◌/◌, ◌%◌, ◌^◌, ◌≤◌, length, get_or};
-ghost use Rattle.std.proofs.Math.Option.{some};
-ghost use Rattle.definitions.specs.Word.{low};
-ghost use Rattle.definitions.specs.Machine.{filter_of, call_of, kind_of, runs, steps};
+ghost use Rattle.std.specs.Prelude.{◌≡◌, true, ◌+◌, ◌*◌, ◌/◌, ◌≤◌, cond, length, get_or, MatchOption};
+ghost use Rattle.std.proofs.Math.Option.{none, some};
+ghost use Rattle.definitions.specs.Machine.{filter_of, call_of, runs, steps};
 ghost use Rattle.definitions.specs.Machine as machine;
 ghost use Rattle.definitions.specs.Kernel.{accepts_bytes};
 ghost use Rattle.definitions.specs.Outcome.{ended, outcome_of, ran_code, RanAll};
 ghost use Rattle.definitions.specs.Outcome as outcome;
 ghost use Rattle.bpf.specs.Place.{place};
-ghost use Rattle.machine.specs.Codes.{alu_numbered, test_numbered, source_numbered, kind_as};
-ghost use Rattle.machine.specs.Run.{any_call, state_of, Stepped};
+ghost use Rattle.machine.specs.Codes.{alu_numbered, test_numbered};
+ghost use Rattle.machine.specs.Run.{state_of, Stepped};
 ghost use Rattle.machine.specs.Outcomes.{outcome_bytes, Put};
 
 use definitions::{Instruction, Outcome};
 
-// What kind of instruction a code is. For the accumulator, and in capitals for the index register: l loads the call's length, i a
-// constant, m a scratch word, s stores. c loads a word of the call, x and a copy to the register of that name, n negates, j jumps,
-// k and r return a constant and the accumulator. + computes and ? compares: which operation and which source is in the code's bits.
-const KINDS: [u8; 176] = *b"\
-    iIsS+jkx....+...\
-    ....+?r.....+?..\
-    c...+?......+?..\
-    ....+?......+?..\
-    ....+?......+?..\
-    ....+.......+...\
-    mM..+.......+...\
-    ....+.......+...\
-    lL..n..a........\
-    ................\
-    ....+.......+...";
-
 // The machine: accumulator, index register, sixteen scratch words.
-#[derive(Clone, Copy)]
+#[derive(Clone, Copy, Debug, PartialEq, Eq)]
 pub struct State {
     pub a: u32,
     pub x: u32,
@@ -42,17 +25,11 @@ pub struct State {
 }
 
 // Where a step leads: some instructions on, out with an action, or nowhere.
-#[derive(Clone, Copy)]
-pub enum Way {
+#[derive(Clone, Copy, Debug, PartialEq, Eq)]
+pub enum Step {
     Next(u32),
     Returns(u32),
     Stuck,
-}
-
-#[derive(Clone, Copy)]
-pub struct Step {
-    pub way: Way,
-    pub state: State,
 }
 
 fn refused() -> Outcome
@@ -65,200 +42,25 @@ fn refused() -> Outcome
     }
 }
 
-fn letter_in_table(code: u16) -> u8
-    ensures { kind_as result (code / 16) (code / 8 % 2) ≡ kind_of code }
-{
-    if code < 176 {
-        return KINDS[code as usize];
-    }
-    b'.'
-}
-
-// The table is copied wherever it is looked into, so the codes of compiled filters are told without it.
-fn kind_letter(code: u16) -> u8
-    ensures { kind_as result (code / 16) (code / 8 % 2) ≡ kind_of code }
-{
-    match code {
-        0x15 => b'?',
-        0x05 => b'j',
-        0x20 => b'c',
-        0x06 => b'k',
-        0x35 => b'?',
-        0x25 => b'?',
-        0x45 => b'?',
-        0x54 => b'+',
-        _ => letter_in_table(code),
-    }
-}
-
-// ---- how a step ends: with a value in a register or a scratch word, some instructions on, with an action, or stuck
-
-fn set_a(a: u32, s: State) -> Step
-    requires { length s.m ≡ 16 }
-    ensures { Stepped (machine.next 0 (machine.set_a a (state_of s))) result }
-{
-    let m = s.m;
-    Step {
-        way: Way::Next(0),
-        state: State { a: a, x: s.x, m: m },
-    }
-}
-
-fn set_x(x: u32, s: State) -> Step
-    requires { length s.m ≡ 16 }
-    ensures { Stepped (machine.next 0 (machine.set_x x (state_of s))) result }
-{
-    let m = s.m;
-    Step {
-        way: Way::Next(0),
-        state: State { a: s.a, x: x, m: m },
-    }
-}
-
-fn set_m(k: u32, w: u32, s: State) -> Step
-    requires { length s.m ≡ 16 }
-    ensures { Stepped (machine.next 0 (machine.set_m k w (state_of s))) result }
-{
-    let mut m = s.m;
-    if k < 16 {
-        m[k as usize] = w;
-    }
-    Step {
-        way: Way::Next(0),
-        state: State {
-            a: s.a,
-            x: s.x,
-            m: m,
-        },
-    }
-}
-
-fn jump_on(d: u32, s: State) -> Step
-    requires { length s.m ≡ 16 }
-    ensures { Stepped (machine.next d (state_of s)) result }
-{
-    Step {
-        way: Way::Next(d),
-        state: s,
-    }
-}
-
-fn leave(a: u32, s: State) -> Step
-    requires { length s.m ≡ 16 }
-    ensures { Stepped (machine.stop (machine.returns a)) result }
-{
-    Step {
-        way: Way::Returns(a),
-        state: s,
-    }
-}
-
-fn stuck(s: State) -> Step
-    requires { length s.m ≡ 16 }
-    ensures { Stepped (machine.stop machine.stuck) result }
-{
-    Step {
-        way: Way::Stuck,
-        state: s,
-    }
-}
-
-// ---- what the kinds of instructions compute
-
-// The scratch word with that number, and 0 where there is none.
-fn word(k: u32, s: State) -> u32
-    requires { length s.m ≡ 16 }
-    ensures { result ≡ get_or s.m k 0 }
-{
-    let m = s.m;
-    if k < 16 {
-        return m[k as usize];
-    }
-    0
-}
-
-fn load(k: u32, s: State, call: &[u8]) -> Step
-    requires { (length call.now ≡ 64) × (length s.m ≡ 16) }
-    ensures { Stepped (machine.into_a machine.stuck (machine.fetch (call_of call.now) k) (state_of s)) result }
-{
-    if checks::in_call(k) {
-        return set_a(bpf::u32_at(call, k as usize), s);
-    }
-    stuck(s)
-}
-
-fn operand(i: Instruction, s: State) -> u32
-    ensures { result ≡ machine.operand (source_numbered (i.code / 8 % 2)) i (state_of s) }
-{
-    if i.code / 8 % 2 == 0 {
-        return i.k;
-    }
-    s.x
-}
-
-fn added(a: u32, b: u32) -> u32
-    ensures { result ≡ low (a + b) }
-{
-    ((a as u64 + b as u64) % 4294967296) as u32
-}
-
-fn subtracted(a: u32, b: u32) -> u32
-    ensures { result ≡ low (a + 2 ^ 32 - b) }
-{
-    ((a as u64 + 4294967296 - b as u64) % 4294967296) as u32
-}
-
-fn multiplied(a: u32, b: u32) -> u32
-    ensures { result ≡ low (a * b) }
-{
-    ((a as u64 * b as u64) % 4294967296) as u32
-}
-
-fn negated(a: u32) -> u32
-    ensures { result ≡ low (2 ^ 32 - a) }
-{
-    ((4294967296 - a as u64) % 4294967296) as u32
-}
-
-// Every operation but the division.
-fn computed(op: u16, a: u32, b: u32) -> u32
-    requires { op ≡ 3 → ⊥ }
-    ensures { machine.compute (alu_numbered op) a b ≡ some result }
+// Every operation, where it has a result: a division by 0 has none.
+#[tactic(auto, unfolding(definitions::specs::Machine::compute, crate::specs::Codes::alu_numbered))]
+fn computed(op: u16, a: u32, b: u32) -> Option<u32>
+    ensures { MatchOption result (machine.compute (alu_numbered op) a b ≡ none) (λ w. machine.compute (alu_numbered op) a b ≡ some w) }
 {
     match op {
-        0 => added(a, b),
-        1 => subtracted(a, b),
-        2 => multiplied(a, b),
-        4 => a | b,
-        5 => a & b,
-        6 => a << (b % 32),
-        7 => a >> (b % 32),
-        _ => a ^ b,
+        0 => Some(a.wrapping_add(b)),
+        1 => Some(a.wrapping_sub(b)),
+        2 => Some(a.wrapping_mul(b)),
+        3 => a.checked_div(b),
+        4 => Some(a | b),
+        5 => Some(a & b),
+        6 => Some(a << (b % 32)),
+        7 => Some(a >> (b % 32)),
+        _ => Some(a ^ b),
     }
 }
 
-// A division by 0 ends the run with action 0.
-fn divided(b: u32, s: State) -> Step
-    requires { length s.m ≡ 16 }
-    ensures { Stepped (machine.into_a (machine.returns 0) (machine.compute machine.div s.a b) (state_of s)) result }
-{
-    if b == 0 {
-        return leave(0, s);
-    }
-    set_a(s.a / b, s)
-}
-
-fn arithmetic(i: Instruction, s: State) -> Step
-    requires { length s.m ≡ 16 }
-    ensures { Stepped (machine.step_as (machine.alu (alu_numbered (i.code / 16)) (source_numbered (i.code / 8 % 2))) i (state_of s) any_call) result }
-{
-    let op = i.code / 16;
-    if op == 3 {
-        return divided(operand(i, s), s);
-    }
-    set_a(computed(op, s.a, operand(i, s)), s)
-}
-
+#[tactic(auto, unfolding(definitions::specs::Machine::test_holds, crate::specs::Codes::test_numbered))]
 fn holds(test: u16, a: u32, b: u32) -> bool
     ensures { result ≡ machine.test_holds (test_numbered test) a b }
 {
@@ -270,93 +72,157 @@ fn holds(test: u16, a: u32, b: u32) -> bool
     }
 }
 
-fn compare(i: Instruction, s: State) -> Step
-    requires { length s.m ≡ 16 }
-    ensures { Stepped (machine.step_as (machine.jump (test_numbered (i.code / 16)) (source_numbered (i.code / 8 % 2))) i (state_of s) any_call) result }
-{
-    if holds(i.code / 16, s.a, operand(i, s)) {
-        return jump_on(i.jt as u32, s);
-    }
-    jump_on(i.jf as u32, s)
-}
+impl State {
+    // ---- how a step ends: with a value in a register or a scratch word, or some instructions on
 
-// One step.
-pub fn execute(i: Instruction, s: State, call: &[u8]) -> Step
-    requires { (length call.now ≡ 64) × (length s.m ≡ 16) }
-    ensures { Stepped (machine.step i (state_of s) (call_of call.now)) result }
-{
-    let letter = kind_letter(i.code);
-    match letter {
-        b'c' => load(i.k, s, call),
-        b'l' => set_a(64, s),
-        b'i' => set_a(i.k, s),
-        b'm' => set_a(word(i.k, s), s),
-        b'L' => set_x(64, s),
-        b'I' => set_x(i.k, s),
-        b'M' => set_x(word(i.k, s), s),
-        b's' => set_m(i.k, s.a, s),
-        b'S' => set_m(i.k, s.x, s),
-        b'x' => set_x(s.a, s),
-        b'a' => set_a(s.x, s),
-        b'n' => set_a(negated(s.a), s),
-        b'j' => jump_on(i.k, s),
-        b'k' => leave(i.k, s),
-        b'r' => leave(s.a, s),
-        b'+' => arithmetic(i, s),
-        b'?' => compare(i, s),
-        _ => stuck(s),
+    fn set_a(&mut self, a: u32) -> Step
+        ensures { Stepped (machine.next 0 (machine.set_a a (state_of self.old))) result self.new }
+    {
+        self.a = a;
+        Step::Next(0)
+    }
+
+    fn set_x(&mut self, x: u32) -> Step
+        ensures { Stepped (machine.next 0 (machine.set_x x (state_of self.old))) result self.new }
+    {
+        self.x = x;
+        Step::Next(0)
+    }
+
+    fn set_word(&mut self, k: u32, w: u32) -> Step
+        ensures { Stepped (machine.next 0 (machine.set_m k w (state_of self.old))) result self.new }
+    {
+        if k < 16 {
+            self.m[k as usize] = w;
+        }
+        Step::Next(0)
+    }
+
+    // ---- what the kinds of instructions compute
+
+    // The scratch word with that number, and 0 where there is none.
+    fn word(&self, k: u32) -> u32
+        ensures { result ≡ get_or self.now.m k 0 }
+    {
+        if k < 16 { self.m[k as usize] } else { 0 }
+    }
+
+    #[tactic(auto, unfolding(definitions::specs::Machine::into_a))]
+    fn load(&mut self, k: u32, call: &[u8; 64]) -> Step
+        ensures { Stepped (machine.into_a machine.stuck (machine.fetch (call_of call.now) k) (state_of self.old)) result self.new }
+    {
+        if checks::in_call(k) {
+            self.set_a(bpf::u32_at(call, k as usize))
+        } else {
+            Step::Stuck
+        }
+    }
+
+    // A division by 0 ends the run with action 0.
+    #[tactic(auto, unfolding(definitions::specs::Machine::into_a))]
+    fn arithmetic(&mut self, op: u16, b: u32) -> Step
+        ensures { Stepped (machine.into_a (machine.returns 0) (machine.compute (alu_numbered op) self.old.a b) (state_of self.old)) result self.new }
+    {
+        match computed(op, self.a, b) {
+            Some(a) => self.set_a(a),
+            None => Step::Returns(0),
+        }
+    }
+
+    fn compare(&mut self, i: Instruction, b: u32) -> Step
+        ensures { Stepped (machine.next (cond (machine.test_holds (test_numbered (i.code / 16)) self.old.a b) i.jt i.jf) (state_of self.old)) result self.new }
+    {
+        let distance = if holds(i.code / 16, self.a, b) {
+            i.jt
+        } else {
+            i.jf
+        };
+        Step::Next(u32::from(distance))
+    }
+
+    // One step.
+    #[tactic(auto, unfolding(definitions::specs::Machine::codes, definitions::specs::Machine::kind_in, definitions::specs::Machine::kind_of, definitions::specs::Machine::step_as, definitions::specs::Machine::step, crate::specs::Codes::alu_numbered, crate::specs::Codes::test_numbered))]
+    pub fn execute(&mut self, i: Instruction, call: &[u8; 64]) -> Step
+        ensures { Stepped (machine.step i (state_of self.old) (call_of call.now)) result self.new }
+    {
+        match i.code {
+            // what goes into the accumulator: a word of the call, its length, a constant, a scratch word
+            0x20 => self.load(i.k, call),
+            0x80 => self.set_a(64),
+            0x00 => self.set_a(i.k),
+            0x60 => self.set_a(self.word(i.k)),
+            // and into the index register
+            0x81 => self.set_x(64),
+            0x01 => self.set_x(i.k),
+            0x61 => self.set_x(self.word(i.k)),
+            // stores, and copies from one register to the other
+            0x02 => self.set_word(i.k, self.a),
+            0x03 => self.set_word(i.k, self.x),
+            0x07 => self.set_x(self.a),
+            0x87 => self.set_a(self.x),
+            // a jump, and returns
+            0x05 => Step::Next(i.k),
+            0x06 => Step::Returns(i.k),
+            0x16 => Step::Returns(self.a),
+            // arithmetic and comparisons, by a constant and by the index register: which operation is in the code's bits
+            0x84 => self.set_a(self.a.wrapping_neg()),
+            0x04 | 0x14 | 0x24 | 0x34 | 0x44 | 0x54 | 0x64 | 0x74 | 0xa4 => self.arithmetic(
+                i.code / 16,
+                i.k,
+            ),
+            0x0c | 0x1c | 0x2c | 0x3c | 0x4c | 0x5c | 0x6c | 0x7c | 0xac => self.arithmetic(
+                i.code / 16,
+                self.x,
+            ),
+            0x15 | 0x25 | 0x35 | 0x45 => self.compare(i, i.k),
+            0x1d | 0x2d | 0x3d | 0x4d => self.compare(i, self.x),
+            _ => Step::Stuck,
+        }
     }
 }
 
 // A run from the start to its end: it only goes on to later instructions.
-fn follow(filter: &[u8], call: &[u8]) -> Outcome
-    requires { (length filter.now ≤ 32768) × (length call.now ≡ 64) }
+fn follow(filter: &[u8], call: &[u8; 64]) -> Outcome
+    requires { length filter.now ≤ 32768 }
     ensures { result ≡ ended (runs (filter_of filter.now) (call_of call.now)) (steps (filter_of filter.now) (call_of call.now)) }
 {
     let n = filter.len() / 8;
     let mut state = State {
         a: 0,
         x: 0,
-        m: [0u32; 16],
+        m: [0; 16],
     };
-    let mut count: u32 = 0;
-    let mut place: usize = 0;
+    let mut count = 0;
+    let mut place = 0;
     while place < n {
-        let done = execute(checks::instruction_at(filter, place * 8), state, call);
-        count = count + 1;
-        let way = done.way;
-        match way {
-            Way::Next(d) => {
-                let after = done.state;
-                state = after;
-                place = checks::target(place, d);
-            }
-            Way::Returns(a) => {
+        count += 1;
+        match state.execute(checks::instruction_at(filter, place * 8), call) {
+            Step::Next(d) => place = checks::target(place, d),
+            Step::Returns(action) => {
                 return Outcome {
                     code: 0,
-                    action: a,
+                    action,
                     steps: count,
                 };
             }
-            Way::Stuck => {
-                return refused();
-            }
+            Step::Stuck => return refused(),
         }
     }
     refused()
 }
 
 // What a filter does with a call of 64 bytes, if the kernel would take the filter.
+#[tactic(auto, using(checks::proofs::Walk::accepts_short), unfolding(definitions::specs::Outcome::outcome_of))]
 pub fn run(filter: &[u8], call: &[u8]) -> Outcome
     ensures { result ≡ outcome_of filter.now call.now }
 {
-    if call.len() != 64 {
+    let Ok(call) = <&[u8; 64]>::try_from(call) else {
         return Outcome {
             code: 9,
             action: 0,
             steps: 0,
         };
-    }
+    };
     if !checks::accepts(filter) {
         return refused();
     }
@@ -366,19 +232,19 @@ pub fn run(filter: &[u8], call: &[u8]) -> Outcome
 // ---- one filter, many calls: the kernel's checks are made once
 
 // Whether the filter is run on the calls, and else why not.
+#[tactic(auto, unfolding(definitions::specs::Outcome::ran_code))]
 fn ran_code(filter: &[u8], calls: &[u8], room: usize) -> u32
     ensures { result ≡ ran_code filter.now calls.now room }
 {
     if calls.len() % 64 != 0 {
-        return 9;
+        9
+    } else if !checks::accepts(filter) {
+        1
+    } else if room < 8 * (calls.len() / 64) {
+        7
+    } else {
+        0
     }
-    if !checks::accepts(filter) {
-        return 1;
-    }
-    if room < 8 * (calls.len() / 64) {
-        return 7;
-    }
-    0
 }
 
 // Writes an outcome's action and steps at a place.
@@ -386,19 +252,16 @@ fn write_outcome(out: &mut [u8], at: usize, o: Outcome)
     requires { at + 8 ≤ length out.old }
     ensures { out.new ≡ place out.old at (outcome_bytes o) }
 {
-    bpf::write_u32(out, at, o.action as u64);
-    bpf::write_u32(out, at + 4, o.steps as u64);
+    bpf::write_u32(out, at, u64::from(o.action));
+    bpf::write_u32(out, at + 4, u64::from(o.steps));
 }
 
 // The outcome of the call with that number is put at its place.
-fn run_one(filter: &[u8], calls: &[u8], i: usize, out: &mut [u8])
-    requires { (accepts_bytes filter.now ≡ true) × (64 * i + 64 ≤ length calls.now) × (8 * i + 8 ≤ length out.old) }
-    ensures { Put filter.now calls.now i out.old out.new }
+fn run_one(filter: &[u8], call: &[u8; 64], i: usize, out: &mut [u8])
+    requires { (accepts_bytes filter.now ≡ true) × (8 * i + 8 ≤ length out.old) }
+    ensures { Put filter.now call.now i out.old out.new }
 {
-    let start = 64 * i;
-    let end = start + 64;
-    let o = follow(filter, &calls[start..end]);
-    write_outcome(out, 8 * i, o);
+    write_outcome(out, 8 * i, follow(filter, call));
 }
 
 // What a filter does with each of the calls, written one outcome behind the other.
@@ -409,11 +272,9 @@ pub fn run_all(filter: &[u8], calls: &[u8], out: &mut [u8]) -> u32
     if code != 0 {
         return code;
     }
-    let n = calls.len() / 64;
-    let mut i: usize = 0;
-    while i < n {
-        run_one(filter, calls, i, out);
-        i = i + 1;
+    let (calls, _) = calls.as_chunks::<64>();
+    for (i, call) in calls.iter().enumerate() {
+        run_one(filter, call, i, out);
     }
     0
 }

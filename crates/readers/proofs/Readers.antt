@@ -1,5 +1,5 @@
 -- What the readers return is what the format's reader gives at the same place.
-use mathlib.Core.Path.{◌≡◌, refl, ap, sym, ◌∙◌}
+use mathlib.Core.Path.{◌≡◌, refl, ap, ◌∙◌}
 use mathlib.Core.Bool.{Bool, true, false, cond, not, ◌&&◌}
 use mathlib.Core.List.{List}
 use mathlib.Core.Option.{Option, none, some}
@@ -7,7 +7,7 @@ use Prim.Native.Nat.{ℕ, ◌+◌, ◌-◌, ◌*◌, ◌≤◌}
 use native.Mathlib.Omega.{arith}
 use lib.Dec.{eqb, leb}
 use lib.ListN.{length, get_or}
-use borrow.Author.Tests.{leb-true, le-leb, eqb-true, eqb-false, eq-eqb, ne_eqb, not-true}
+use borrow.Author.Tests.{leb-true, le-leb, eqb-false, ne_eqb, not-true}
 use Rattle.definitions.specs.declared.Condition.{Condition}
 use Rattle.definitions.specs.declared.Cursor.{Cursor}
 use Rattle.definitions.specs.declared.Compared.{Compared}
@@ -42,18 +42,6 @@ pub number_5 : (s : List ℕ) (at : ℕ) → at + 24 ≤ length s → number_at 
 number_5 s at h =
     let e : at + 3 + 1 ≡ at + 4 = omega arith in
     rw e at (number_suc 4 s (at + 3) (omega arith))
-
-pub padded_first : (s : List ℕ) (at : ℕ) → at + 24 ≤ length s → (get_or s (at + 3) 0 ≡ 0 → ⊥) → false ≡ eqb (number_at 5 s (at + 3)) 0
-padded_first s at h bad = sym (ne_eqb (number_at 5 s (at + 3)) 0 (λ z. bad (omega (arith, number_5 s at h))))
-
-pub padded_rest : (s : List ℕ) (at : ℕ) {n : ℕ} → at + 24 ≤ length s → get_or s (at + 3) 0 ≡ 0 → n ≡ number_at 4 s (at + 4)
-    → eqb n 0 ≡ eqb (number_at 5 s (at + 3)) 0
-padded_rest s at {n} h first rest =
-    go (eqb n 0) refl
-  where
-    go : (t : Bool) → eqb n 0 ≡ t → t ≡ eqb (number_at 5 s (at + 3)) 0
-    go true e = sym (eq-eqb (number_at 5 s (at + 3)) 0 (omega (arith, number_5 s at h, eqb-true n 0 e)))
-    go false e = sym (ne_eqb (number_at 5 s (at + 3)) 0 (λ z. eqb-false n 0 e (omega (arith, number_5 s at h))))
 
 -- ---- a condition
 
@@ -137,3 +125,6 @@ module _ (s : List ℕ) (c : Cursor) (some_left : c.conditions ≡ 0 → ⊥) wh
           go (some q) p e =
               let n = condition_numbers _ _ _ _ _ q p in
               rw (n.index_is, n.width_is, n.operator_is, n.value_is, n.mask_is)
+
+-- one test after the other
+pub ruleset compared_steps = (reaches_true, compared_short, compared_unpadded, compared_bad, compared_good)

@@ -12,23 +12,15 @@ use definitions::{Compared, Cursor, Head, Listed};
 fn stopped(c: Cursor, code: u32) -> Cursor
     ensures { result ≡ readers.stopped c code }
 {
-    Cursor {
-        code: code,
-        at: c.at,
-        entries: c.entries,
-        rules: c.rules,
-        conditions: c.conditions,
-    }
+    Cursor { code, ..c }
 }
 
+#[tactic(auto, unfolding(definitions::specs::Readers::reaches))]
 fn reaches(size: usize, at: u32, more: usize) -> bool
     requires { more ≤ 24 }
     ensures { result ≡ readers.reaches size at more }
 {
-    if 1048576 < size {
-        return false;
-    }
-    at as usize + more <= size
+    size <= 1048576 && at as usize + more <= size
 }
 
 fn no_head() -> Head
@@ -49,19 +41,17 @@ fn no_head() -> Head
 }
 
 // Whether the format has a head of these numbers.
+#[tactic(auto, unfolding(definitions::specs::Writers::head_good))]
 pub fn head_good(architecture: u32, mismatch: u32, on_match: u32) -> bool
     ensures { result ≡ head_good architecture mismatch on_match }
 {
-    if !set_view::architecture_known(architecture) {
-        return false;
-    }
-    if !set_view::is_action(mismatch) {
-        return false;
-    }
-    set_view::is_action(on_match)
+    set_view::architecture_known(architecture)
+        && set_view::is_action(mismatch)
+        && set_view::is_action(on_match)
 }
 
 // Reads the head of a set.
+#[tactic(auto, using(crate::proofs::Readers::reaches_true), unfolding(definitions::specs::Readers::head_of))]
 pub fn read_head(set: &[u8]) -> Head
     ensures { result ≡ readers.head_of set.now }
 {
@@ -74,53 +64,45 @@ pub fn read_head(set: &[u8]) -> Head
     if !head_good(architecture, mismatch, on_match) {
         return no_head();
     }
-    let entries = bpf::u32_at(set, 12);
     Head {
         next: Cursor {
             code: 0,
             at: 16,
-            entries: entries,
+            entries: bpf::u32_at(set, 12),
             rules: 0,
             conditions: 0,
         },
-        architecture: architecture,
-        mismatch: mismatch,
-        on_match: on_match,
+        architecture,
+        mismatch,
+        on_match,
     }
 }
 
+#[tactic(auto, unfolding(definitions::specs::Readers::at_entry))]
 fn at_entry(c: Cursor) -> bool
     ensures { result ≡ readers.at_entry c }
 {
-    if c.entries == 0 {
-        return false;
-    }
-    if c.rules != 0 {
-        return false;
-    }
-    c.conditions == 0
+    c.entries != 0 && c.rules == 0 && c.conditions == 0
 }
 
+#[tactic(auto, unfolding(definitions::specs::Readers::at_rule))]
 fn at_rule(c: Cursor) -> bool
     ensures { result ≡ readers.at_rule c }
 {
-    if c.rules == 0 {
-        return false;
-    }
-    c.conditions == 0
+    c.rules != 0 && c.conditions == 0
 }
 
 fn no_entry(c: Cursor, code: u32) -> Listed
     ensures { result ≡ readers.no_entry c code }
 {
-    let next = stopped(c, code);
     Listed {
-        next: next,
+        next: stopped(c, code),
         number: 0,
     }
 }
 
 // Reads the number that is listed next, once all rules of the last one are read.
+#[tactic(auto, using(crate::proofs::Readers::reaches_true, crate::proofs::Readers::entry_left), unfolding(definitions::specs::Readers::entry_of))]
 pub fn next_entry(set: &[u8], c: Cursor) -> Listed
     ensures { result ≡ readers.entry_of set.now c }
 {
@@ -131,21 +113,20 @@ pub fn next_entry(set: &[u8], c: Cursor) -> Listed
         return no_entry(c, 1);
     }
     let at = c.at as usize;
-    let number = bpf::u32_at(set, at);
-    let rules = bpf::u32_at(set, at + 4);
     Listed {
         next: Cursor {
             code: 0,
             at: c.at + 8,
             entries: c.entries - 1,
-            rules: rules,
+            rules: bpf::u32_at(set, at + 4),
             conditions: 0,
         },
-        number: number,
+        number: bpf::u32_at(set, at),
     }
 }
 
 // Goes on to the next rule, once all conditions of the last one are read.
+#[tactic(auto, using(crate::proofs::Readers::reaches_true, crate::proofs::Readers::rule_left), unfolding(definitions::specs::Readers::rule_of))]
 pub fn next_rule(set: &[u8], c: Cursor) -> Cursor
     ensures { result ≡ readers.rule_of set.now c }
 {
@@ -155,22 +136,20 @@ pub fn next_rule(set: &[u8], c: Cursor) -> Cursor
     if !reaches(set.len(), c.at, 4) {
         return stopped(c, 1);
     }
-    let conditions = bpf::u32_at(set, c.at as usize);
     Cursor {
         code: 0,
         at: c.at + 4,
-        entries: c.entries,
         rules: c.rules - 1,
-        conditions: conditions,
+        conditions: bpf::u32_at(set, c.at as usize),
+        ..c
     }
 }
 
 fn no_condition(c: Cursor, code: u32) -> Compared
     ensures { result ≡ readers.no_condition c code }
 {
-    let next = stopped(c, code);
     Compared {
-        next: next,
+        next: stopped(c, code),
         index: 0,
         width: 0,
         operator: 0,
@@ -180,34 +159,24 @@ fn no_condition(c: Cursor, code: u32) -> Compared
 }
 
 // Whether the five bytes behind a condition's names are zero.
+#[tactic(auto, using(crate::proofs::Readers::number_5))]
 fn padded(set: &[u8], at: usize) -> bool
     requires { at + 24 ≤ length set.now }
     ensures { result ≡ eqb (number_at 5 set.now (at + 3)) 0 }
 {
-    if set[at + 3] != 0 {
-        return false;
-    }
-    let rest = bpf::u32_at(set, at + 4);
-    rest == 0
+    set[at + 3] == 0 && bpf::u32_at(set, at + 4) == 0
 }
 
 // Whether the format has a condition of these numbers.
+#[tactic(auto, unfolding(crate::specs::Tests::condition_good))]
 pub fn condition_good(width: u8, operator: u8, mask: u64) -> bool
     ensures { result ≡ condition_good width operator mask }
 {
-    if !set_view::width_known(width) {
-        return false;
-    }
-    if 6 < operator {
-        return false;
-    }
-    if operator == 5 {
-        return true;
-    }
-    mask == 0
+    set_view::width_known(width) && operator <= 6 && (operator == 5 || mask == 0)
 }
 
 // Reads the next condition of the open rule.
+#[tactic(auto, using(crate::proofs::Readers::compared_steps), unfolding(definitions::specs::Readers::compared_of))]
 pub fn next_condition(set: &[u8], c: Cursor) -> Compared
     ensures { result ≡ readers.compared_of set.now c }
 {
@@ -227,19 +196,17 @@ pub fn next_condition(set: &[u8], c: Cursor) -> Compared
     if !condition_good(width, operator, mask) {
         return no_condition(c, 1);
     }
-    let value = bpf::u64_at(set, at + 8);
     Compared {
         next: Cursor {
             code: 0,
             at: c.at + 24,
-            entries: c.entries,
-            rules: c.rules,
             conditions: c.conditions - 1,
+            ..c
         },
         index: set[at],
-        width: width,
-        operator: operator,
-        value: value,
-        mask: mask,
+        width,
+        operator,
+        value: bpf::u64_at(set, at + 8),
+        mask,
     }
 }

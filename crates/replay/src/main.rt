@@ -2,7 +2,7 @@
 // It needs nothing but itself and its input, so that vectors can be tried where neither Rust nor Python is at hand.
 #![tactic(auto)]
 
-ghost use Rattle.std.specs.Prelude.{◌≡◌, true, ◌≤◌, length};
+ghost use Rattle.std.specs.Prelude.{◌≡◌, true, ◌≤◌, length, OnOk};
 ghost use Rattle.replay.specs.Pattern as patterns;
 
 use definitions::Answer;
@@ -24,8 +24,11 @@ enum Record {
     // The name of the kind that follows, in so many bytes at the start of the set's space.
     Kind(usize),
     End,
-    Cut,
 }
+
+// The input ends, or has a vector that is too large, where a record should stand.
+#[derive(Clone, Copy)]
+struct Cut;
 
 // The byte at a place of a buffer before a set is compiled into it.
 fn pattern(at: usize) -> u8
@@ -37,10 +40,8 @@ fn pattern(at: usize) -> u8
 fn fill(out: &mut [u8])
     ensures { patterns.Untouched 0 out.new }
 {
-    let mut i = 0;
-    while i < out.len() {
+    for i in 0..out.len() {
         out[i] = pattern(i);
-        i += 1;
     }
 }
 
@@ -48,32 +49,12 @@ fn fill(out: &mut [u8])
 fn untouched(out: &[u8], from: usize) -> bool
     ensures { result ≡ true → patterns.Untouched from out.now }
 {
-    let mut i = from;
-    while i < out.len() {
+    for i in from..out.len() {
         if out[i] != pattern(i) {
             return false;
         }
-        i += 1;
     }
     true
-}
-
-fn same_answer(one: Answer, other: Answer) -> bool
-    ensures { result ≡ true → one ≡ other }
-{
-    if one.code != other.code {
-        return false;
-    }
-    if one.count != other.count {
-        return false;
-    }
-    if one.entry != other.entry {
-        return false;
-    }
-    if one.rule != other.rule {
-        return false;
-    }
-    one.condition == other.condition
 }
 
 // Whether a set compiles into a buffer as its vector says. The promise is that no vector passes unless all of it holds; one that
@@ -83,27 +64,24 @@ fn holds(set: &[u8], filter: &[u8], wanted: Answer, out: &mut [u8]) -> bool
 {
     fill(out);
     let answer = callfilter::callfilter_compile(set, out);
-    if !same_answer(answer, wanted) {
-        return false;
-    }
     let size = filter.len();
-    if out.len() < size {
-        return false;
-    }
-    if !check::same(&out[..size], filter) {
-        return false;
-    }
-    untouched(out, size)
+    answer == wanted
+        && size <= out.len()
+        && check::same(&out[..size], filter)
+        && untouched(out, size)
 }
 
-// Reads so many bytes to the start of a space, and answers whether it has room for them and they came.
-fn fetch(input: &mut impl Read, space: &mut [u8], count: usize) -> bool
-    ensures { result ≡ true → count ≤ length space.new }
+// Reads so many bytes to the start of a space, if it has room for them.
+fn fetch(input: &mut impl Read, space: &mut [u8], count: usize) -> Result<(), Cut>
+    ensures { OnOk result (count ≤ length space.new) }
 {
     if space.len() < count {
-        return false;
+        return Err(Cut);
     }
-    input.read_exact(&mut space[..count]).is_ok()
+    match input.read_exact(&mut space[..count]) {
+        Ok(()) => Ok(()),
+        Err(_) => Err(Cut),
+    }
 }
 
 // The answer that a vector's first numbers tell.
@@ -124,29 +102,21 @@ fn vector(
     sets: &mut [u8],
     filters: &mut [u8],
     outs: &mut [u8],
-) -> Record {
+) -> Result<Record, Cut> {
     let set_size = bpf::u32_at(head, 4) as usize;
     let room = bpf::u32_at(head, 8) as usize;
-    let wanted = told(head);
     let filter_size = bpf::u32_at(head, 32) as usize;
-    if !fetch(input, sets, set_size) {
-        return Record::Cut;
-    }
-    if !fetch(input, filters, filter_size) {
-        return Record::Cut;
-    }
+    fetch(input, sets, set_size)?;
+    fetch(input, filters, filter_size)?;
     if outs.len() < room {
-        return Record::Cut;
+        return Err(Cut);
     }
-    if holds(
-        &sets[..set_size],
-        &filters[..filter_size],
-        wanted,
-        &mut outs[..room],
-    ) {
-        Record::Passed
+    let set = &sets[..set_size];
+    let filter = &filters[..filter_size];
+    if holds(set, filter, told(head), &mut outs[..room]) {
+        Ok(Record::Passed)
     } else {
-        Record::Failed
+        Ok(Record::Failed)
     }
 }
 
@@ -156,26 +126,18 @@ fn next(
     sets: &mut [u8; LARGEST_SET],
     filters: &mut [u8; LARGEST_FILTER],
     outs: &mut [u8; LARGEST_ROOM],
-) -> Record {
+) -> Result<Record, Cut> {
     let mut head = [0u8; 36];
-    if !fetch(input, &mut head, 36) {
-        return Record::Cut;
-    }
-    let what = bpf::u32_at(&head, 0);
-    if what == 0 {
-        return vector(input, &head, sets, filters, outs);
-    }
-    if what == 2 {
-        return Record::End;
-    }
-    if what != 1 {
-        return Record::Cut;
-    }
-    let size = bpf::u32_at(&head, 4) as usize;
-    if fetch(input, sets, size) {
-        Record::Kind(size)
-    } else {
-        Record::Cut
+    fetch(input, &mut head, 36)?;
+    match bpf::u32_at(&head, 0) {
+        0 => vector(input, &head, sets, filters, outs),
+        1 => {
+            let size = bpf::u32_at(&head, 4) as usize;
+            fetch(input, sets, size)?;
+            Ok(Record::Kind(size))
+        }
+        2 => Ok(Record::End),
+        _ => Err(Cut),
     }
 }
 
@@ -208,17 +170,16 @@ fn main(rt: HostRuntime) -> io::Result<()> {
     let mut all_failed: u64 = 0;
     // Nothing says that an input ends and the loop has to, so it has more turns than there are records.
     for _ in 0u64..1000000 {
-        let record = next(&mut input, &mut sets, &mut filters, &mut outs);
-        match record {
-            Record::Passed => {
+        match next(&mut input, &mut sets, &mut filters, &mut outs) {
+            Ok(Record::Passed) => {
                 passed += 1;
                 all_passed += 1;
             }
-            Record::Failed => {
+            Ok(Record::Failed) => {
                 failed += 1;
                 all_failed += 1;
             }
-            Record::Kind(size) => {
+            Ok(Record::Kind(size)) => {
                 if started {
                     write_counts(&rt, passed, failed)?;
                 }
@@ -227,11 +188,11 @@ fn main(rt: HostRuntime) -> io::Result<()> {
                 failed = 0;
                 write_name(&rt, &sets, size)?;
             }
-            Record::End => {
+            Ok(Record::End) => {
                 write_counts(&rt, passed, failed)?;
                 return write_counts(&rt, all_passed, all_failed);
             }
-            Record::Cut => {
+            Err(Cut) => {
                 break;
             }
         }

@@ -2,7 +2,7 @@
 use mathlib.Core.Path.{◌≡◌, refl}
 use mathlib.Core.Bool.{Bool, true, false, cond}
 use mathlib.Core.List.{List, [], ◌∷◌, ◌++◌}
-use Prim.Native.Nat.{ℕ, ◌+◌, ◌-◌, ◌*◌, ◌≤◌}
+use Prim.Native.Nat.{ℕ, ◌+◌, ◌-◌, ◌*◌, ◌≤◌, ◌<◌}
 use native.Mathlib.Omega.{arith}
 use borrow.Author.Tests.{ltb-false}
 use lib.Dec.{ltb}
@@ -15,7 +15,7 @@ use Rattle.definitions.specs.Emitted.{jump_by, return, condition_code, reach, he
 use Rattle.bpf.specs.Place.{place, place_before}
 use Rattle.bpf.proofs.Buffer.{length_place, place_nil, length_filter_bytes, put_first, put_2, puts_before, before_is, WritingBefore}
 use Rattle.set_view.specs.Parts.{condition_here, condition_past, conditions_here}
-use Rattle.set_view.proofs.Walk.{parts_more, parts_none}
+use Rattle.set_view.proofs.Walk.{parts_next, parts_end}
 
 -- ---- helper jumps, and the distance behind them
 
@@ -60,35 +60,35 @@ step_distance_lem q d = refl
 pub step_length : (q : Condition) (d : ℕ) → length (step_code q d) ≡ length (condition_code q (near d)) + length (helpers d)
 step_length q d = rw (step_is q d, length-append)
 
--- ---- the conditions of a rule, from the bytes
+-- ---- the conditions of a rule, from the bytes: of n conditions k are passed
 
-pub code_more : (s : List ℕ) (n at d : ℕ) → (n ≡ 0 → ⊥)
-    → conditions_code (conditions_here s n at) d
-    ≡ conditions_code (conditions_here s (n - 1) (at + 24)) (step_distance (condition_here s at) d) ++ step_code (condition_here s at) d
+pub code_more : (s : List ℕ) (n k at d : ℕ) → k < n
+    → conditions_code (conditions_here s (n - k) at) d
+    ≡ conditions_code (conditions_here s (n - (k + 1)) (at + 24)) (step_distance (condition_here s at) d) ++ step_code (condition_here s at) d
 unfolding conditions_code
-code_more s n at d h = rw (parts_more (condition_here s) condition_past n at h)
+code_more s n k at d h = rw (parts_next (condition_here s) condition_past n k at h)
 
-pub code_none : (s : List ℕ) (n at d : ℕ) → n ≡ 0 → conditions_code (conditions_here s n at) d ≡ []
+pub code_none : (s : List ℕ) (n k at d : ℕ) → n ≤ k → conditions_code (conditions_here s (n - k) at) d ≡ []
 unfolding conditions_code
-code_none s n at d e = rw (parts_none (condition_here s) condition_past n at e)
+code_none s n k at d h = rw (parts_end (condition_here s) condition_past n k at h)
 
-pub code_length : (s : List ℕ) (n at d : ℕ) → (n ≡ 0 → ⊥)
-    → length (conditions_code (conditions_here s n at) d)
-    ≡ length (conditions_code (conditions_here s (n - 1) (at + 24)) (step_distance (condition_here s at) d)) + length (step_code (condition_here s at) d)
-code_length s n at d h = rw (code_more s n at d h, length-append)
+pub code_length : (s : List ℕ) (n k at d : ℕ) → k < n
+    → length (conditions_code (conditions_here s (n - k) at) d)
+    ≡ length (conditions_code (conditions_here s (n - (k + 1)) (at + 24)) (step_distance (condition_here s at) d)) + length (step_code (condition_here s at) d)
+code_length s n k at d h = rw (code_more s n k at d h, length-append)
 
-pub step_room : (s : List ℕ) (n at d : ℕ) {out₀ : List ℕ} {end : ℕ} {all : List Instruction} {out : List ℕ} {pos : ℕ} → (n ≡ 0 → ⊥)
-    → WritingBefore out₀ end all out pos (conditions_code (conditions_here s n at) d) → 8 * length (step_code (condition_here s at) d) ≤ pos
-step_room s n at d h w = omega (arith, w.room, code_length s n at d h)
+pub step_room : (s : List ℕ) (n k at d : ℕ) {out₀ : List ℕ} {end : ℕ} {all : List Instruction} {out : List ℕ} {pos : ℕ} → k < n
+    → WritingBefore out₀ end all out pos (conditions_code (conditions_here s (n - k) at) d) → 8 * length (step_code (condition_here s at) d) ≤ pos
+step_room s n k at d h w = omega (arith, w.room, code_length s n k at d h)
 
-pub distance_more : (s : List ℕ) (n at d : ℕ) → (n ≡ 0 → ⊥)
-    → distance (conditions_here s n at) d ≡ distance (conditions_here s (n - 1) (at + 24)) (step_distance (condition_here s at) d)
+pub distance_more : (s : List ℕ) (n k at d : ℕ) → k < n
+    → distance (conditions_here s (n - k) at) d ≡ distance (conditions_here s (n - (k + 1)) (at + 24)) (step_distance (condition_here s at) d)
 unfolding distance
-distance_more s n at d h = rw (parts_more (condition_here s) condition_past n at h)
+distance_more s n k at d h = rw (parts_next (condition_here s) condition_past n k at h)
 
-pub distance_none : (s : List ℕ) (n at d : ℕ) → n ≡ 0 → distance (conditions_here s n at) d ≡ d
+pub distance_none : (s : List ℕ) (n k at d : ℕ) → n ≤ k → distance (conditions_here s (n - k) at) d ≡ d
 unfolding distance
-distance_none s n at d e = rw (parts_none (condition_here s) condition_past n at e)
+distance_none s n k at d h = rw (parts_end (condition_here s) condition_past n k at h)
 
 -- ---- a rule
 

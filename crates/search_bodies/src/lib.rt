@@ -11,6 +11,7 @@ ghost use Rattle.set_view.specs.Parts.{Reach, entries_here, entries_past, rules_
 ghost use Rattle.search_bodies.specs.Here.{bodies_here};
 
 use rule::{Length, Written};
+use set_view::Actions;
 
 // How many instructions the n rules of an entry have here, and the place behind them in the rule set.
 pub fn body_length(s: &[u8], n: u32, from: usize) -> Length
@@ -19,16 +20,17 @@ pub fn body_length(s: &[u8], n: u32, from: usize) -> Length
         × (result.past ≡ rules_past s.now n from) × (result.count + from ≤ result.past) }
 {
     if n == 0 {
-        return Length {
+        Length {
             count: 0,
             past: from,
-        };
-    }
-    let rules = rule::rules_length(s, n, from);
-    // a return stands behind them
-    Length {
-        count: rules.count + 1,
-        past: rules.past,
+        }
+    } else {
+        let rules = rule::rules_length(s, n, from);
+        // a return stands behind them
+        Length {
+            count: rules.count + 1,
+            past: rules.past,
+        }
     }
 }
 
@@ -39,63 +41,58 @@ pub fn bodies_length(s: &[u8], n: u32, from: usize) -> usize
 {
     let mut count: usize = 1;
     let mut past = from;
-    let mut left = n;
-    while left != 0 {
+    for _ in 0..n {
         let rules = bpf::u32_at(s, past + 4);
         let body = body_length(s, rules, past + 8);
-        count = count + body.count;
+        count += body.count;
         past = body.past;
-        left = left - 1;
     }
     count
 }
 
-// Writes the n rules of an entry at a place, with a mismatch return behind them. Match action m, mismatch action d.
+// Writes the n rules of an entry at a place, with a mismatch return behind them.
 fn put_entry_body(
     out: &mut [u8],
     s: &[u8],
     n: u32,
     from: usize,
     at: usize,
-    m: u32,
-    d: u32,
+    actions: Actions,
 ) -> Written
     requires reach { Reach s.now (rules_past s.now n from) }
-    requires from_in_bounds { at + 8 * length (entry_body m d (rules_here s.now n from)) ≤ length out.old }
-    ensures { (out.new ≡ place out.old at (filter_bytes (entry_body m d (rules_here s.now n from))))
-        × (result.end ≡ at + 8 * length (entry_body m d (rules_here s.now n from)))
+    requires from_in_bounds { at + 8 * length (entry_body actions.on_match actions.mismatch (rules_here s.now n from)) ≤ length out.old }
+    ensures { (out.new ≡ place out.old at (filter_bytes (entry_body actions.on_match actions.mismatch (rules_here s.now n from))))
+        × (result.end ≡ at + 8 * length (entry_body actions.on_match actions.mismatch (rules_here s.now n from)))
         × (result.past ≡ rules_past s.now n from) }
 {
     if n == 0 {
-        return Written {
+        Written {
             end: at,
             past: from,
-        };
-    }
-    let rules = rule::put_rules(out, s, n, from, at, m, false);
-    let last = rules.end;
-    bpf::put(out, last, bpf::give(d));
-    Written {
-        end: last + 8,
-        past: rules.past,
+        }
+    } else {
+        let rules = rule::put_rules(out, s, n, from, at, actions.on_match, false);
+        bpf::put(out, rules.end, bpf::give(actions.mismatch));
+        Written {
+            end: rules.end + 8,
+            past: rules.past,
+        }
     }
 }
 
-// Writes the rules of n entries at a place, with a mismatch return behind them. Match action m, mismatch action d.
-pub fn put_bodies(out: &mut [u8], s: &[u8], n: u32, from: usize, at: usize, m: u32, d: u32)
+// Writes the rules of n entries at a place, with a mismatch return behind them.
+pub fn put_bodies(out: &mut [u8], s: &[u8], n: u32, from: usize, at: usize, actions: Actions)
     requires reach { Reach s.now (entries_past s.now n from) }
-    requires from_in_bounds { at + 8 * length (bodies m d (entries_here s.now n from)) ≤ length out.old }
-    ensures { out.new ≡ place out.old at (filter_bytes (bodies m d (entries_here s.now n from))) }
+    requires from_in_bounds { at + 8 * length (bodies actions.on_match actions.mismatch (entries_here s.now n from)) ≤ length out.old }
+    ensures { out.new ≡ place out.old at (filter_bytes (bodies actions.on_match actions.mismatch (entries_here s.now n from))) }
 {
     let mut end = at;
     let mut past = from;
-    let mut left = n;
-    while left != 0 {
+    for _ in 0..n {
         let rules = bpf::u32_at(s, past + 4);
-        let entry = put_entry_body(out, s, rules, past + 8, end, m, d);
+        let entry = put_entry_body(out, s, rules, past + 8, end, actions);
         end = entry.end;
         past = entry.past;
-        left = left - 1;
     }
-    bpf::put(out, end, bpf::give(d));
+    bpf::put(out, end, bpf::give(actions.mismatch));
 }

@@ -4,6 +4,7 @@ use mathlib.Core.Bool.{false}
 use mathlib.Core.List.{List, ◌++◌}
 use Prim.Native.Nat.{ℕ, zero, suc, ◌+◌, ◌*◌, ◌≤◌, ◌<◌}
 use native.Mathlib.Omega.{arith}
+use Rattle.std.proofs.Common.{Some, None}
 use lib.Dec.{ltb}
 use lib.ListN.{length, length-append, take}
 use lib.Seq.{take-length, take_all}
@@ -30,7 +31,7 @@ use Rattle.search_writer.specs.Forms.{planted_here, first_here, Ends, Makes}
 
 pub planted_there : (s : List ℕ) (n total runs m d : ℕ) {end : ℕ} {r : Marks} {old new : List ℕ} → m ≡ number_at 4 s 8 → d ≡ number_at 4 s 4
     → total ≡ length (bodies_here s n 16) → runs ≡ length (spans_here s n 16)
-    → Makes end (record { count = total; hit = 0; miss = 1; at = 1 }) r old new (plant m d (grow runs false 0 0 (take runs (spans_here s n 16))))
+    → Makes end (record { count = total; hit = None; miss = Some 1; at = 1 }) r old new (plant m d (grow runs false 0 0 (take runs (spans_here s n 16))))
     → (z : List ℕ) → Ends z end (bodies_here s n 16) old → (r.count ≡ length (planted_here s n)) × Ends z end (planted_here s n) new
 unfolding planted tree ground
 planted_there s n total runs m d em ed et er made z w =

@@ -6,6 +6,7 @@ use mathlib.Core.List.{List, [], ◌∷◌}
 use Prim.Native.Nat.{ℕ, zero, suc, ◌+◌, ◌-◌, ◌*◌, ◌≤◌, ◌<◌}
 use native.Mathlib.Omega.{arith}
 use borrow.Author.Tests.{lt-ltb, le-ltb, ltb-true, ltb-false, le-leb, lt-leb, leb-true, leb-false, eq-eqb, ne_eqb, eqb-true}
+use Rattle.std.proofs.Common.{Option, Some, None}
 use lib.Dec.{eqb, leb, ltb}
 use lib.ListN.{length, take}
 use Rattle.definitions.specs.declared.Instruction.{Instruction}
@@ -14,12 +15,15 @@ use Rattle.definitions.specs.Emitted.{jump_by, return}
 use Rattle.theorems.proofs.Tests.{both_true}
 use Rattle.bpf.specs.Place.{place}
 use Rattle.bpf.proofs.Buffer.{put_first, puts_before, before_is}
-use Rattle.definitions.specs.SearchForm.{to_mismatch, Span, singles, chain, block_reach, open_block, block_if, ends_by, up_to, link, Comparison, equal, at_least, above, Tree, leaf, node, Spot, in_front, jump_reach, away, near_place, near_return, plant_leaf, comparing, compare_first, plant}
-use Rattle.spans.specs.Spans.{destination}
+use Rattle.definitions.specs.SearchForm as form
+use Rattle.definitions.specs.SearchForm.{to_mismatch, to_match, to_rules, Span, singles, chain, block_reach, open_block, block_if, ends_by, up_to, link, equal, at_least, above, Tree, leaf, node, Spot, in_front, jump_reach, away, near_place, near_return, plant_leaf, comparing, compare_first, plant}
 use Rattle.spans.proofs.Reading.{take_more, singles_more}
 use Rattle.search_writer.specs.declared.Reached.{Reached}
 use Rattle.search_writer.specs.declared.Marks.{Marks}
-use Rattle.search_writer.specs.Forms.{Ends, Reaches, Holds, Makes, to_return, open_if, code_of}
+use Rattle.search_writer.specs.Forms.{Inside, place_of, Ends, Reaches, Holds, Makes, Ready, Grew, to_return, open_if}
+use Rattle.search_writer.specs.Compared.{code_of, kind_of}
+use Rattle.search_writer.specs.declared.Comparison.{Comparison}
+use Rattle.search_writer.specs.declared.Comparison.TheVariants.{Equal, AtLeast, Above}
 
 -- ---- an instruction more
 
@@ -60,19 +64,32 @@ reach_kept end n at old step kept i h =
       most = omega arith;
     }
 
-pub reach_front : (end n : ℕ) (old new : List ℕ) (i : Instruction) (step : List Instruction → Spot)
-    → ((p : List Instruction) → length p ≡ n → step p ≡ in_front i p)
+-- an instruction in front of all
+pub reach_put : (end n : ℕ) (old new : List ℕ) (i : Instruction)
     → ((z : List ℕ) (p : List Instruction) → length p ≡ n → Ends z end p old → Ends z end (i ∷ p) new)
-    → Reaches end n old new (record { count = n + 1; at = n + 1 }) step
-reach_front end n old new i step front put =
+    → Reaches end n old new (record { count = n + 1; at = n + 1 }) (in_front i)
+reach_put end n old new i put =
     record {
-      code = λ z p e w. rw (front p e) (put z p e w);
-      count = λ p e. rw (front p e) (omega arith);
-      at = λ p e. rw (front p e) (omega arith);
+      code = put;
+      count = λ p e. omega arith;
+      at = λ p e. omega arith;
       inside = omega arith;
       near = omega arith;
       less = omega arith;
       most = omega arith;
+    }
+
+pub reach_front : (step : List Instruction → Spot) {end n : ℕ} {old new : List ℕ} {r : Reached} {i : Instruction}
+    → ((p : List Instruction) → length p ≡ n → step p ≡ in_front i p) → Reaches end n old new r (in_front i) → Reaches end n old new r step
+reach_front step front e =
+    record {
+      code = λ z p l w. rw (front p l) (e.code z p l w);
+      count = λ p l. rw (front p l) (e.count p l);
+      at = λ p l. rw (front p l) (e.at p l);
+      inside = e.inside;
+      near = e.near;
+      less = e.less;
+      most = e.most;
     }
 
 pub place_kept : (n at : ℕ) (p : List Instruction) → n - at ≤ 250 → length p ≡ n → near_place at p ≡ record { code = p; at = at }
@@ -93,24 +110,59 @@ pub return_front : (z action n at : ℕ) (p : List Instruction) → ltb z (away 
 unfolding near_return
 return_front z action n at p h e = rw (e, h)
 
-pub away_near : (z n at : ℕ) → z ≤ 250 → at ≤ n → ltb z (away n at) ≡ false → n ≤ at + 250
+pub away_near : (z n at : ℕ) → 0 < at → n - at ≤ z → ltb z (away n at) ≡ false
 unfolding away
-away_near z n zero h i e = absurd (let l = ltb-false z 256 e in omega arith)
-away_near z n (suc at) h i e = omega (arith, ltb-false z (n - suc at) e)
+away_near z n zero h i = absurd (omega arith)
+away_near z n (suc at) h i = le-ltb z (n - suc at) i
 
-pub away_none : (z n at : ℕ) → z < 256 → at ≡ 0 → ltb z (away n at) ≡ true
+pub away_none : (z n : ℕ) → z ≤ 250 → ltb z (away n 0) ≡ true
 unfolding away
-away_none z n at h e = rw e (lt-ltb z 256 h)
+away_none z n h = lt-ltb z 256 (omega arith)
 
-pub away_some : (n at : ℕ) → (at ≡ 0 → ⊥) → away n at ≡ n - at
+pub away_far : (z n at : ℕ) → 0 < at → z < n - at → ltb z (away n at) ≡ true
 unfolding away
-away_some n zero h = absurd (h refl)
-away_some n (suc at) h = refl
+away_far z n zero h i = absurd (omega arith)
+away_far z n (suc at) h i = lt-ltb z (n - suc at) i
+
+-- ---- marks: the returns stay in code that grows, and few enough instructions are added
+
+pub inside_on : (place : Option ℕ) {n more : ℕ} → Inside n place → n ≤ more → Inside more place
+inside_on None w h = tt
+inside_on (Some at) w h = (w.0, omega arith)
+
+pub ready_after : {end more b : ℕ} {k r : Marks} {old new : List ℕ} → Ready end more k old → Inside r.count r.hit → Inside r.count r.miss
+    → r.count + b ≤ k.count + more → length new ≡ length old → Ready end b r new
+ready_after w hit miss h l = let small = w.small in let room = w.room in record { room = omega arith; hit = hit; miss = miss; small = omega arith }
+
+pub ready_on : {end more a b : ℕ} {k r : Marks} {old new : List ℕ} → Ready end more k old → Grew a k r → a + b ≤ more → length new ≡ length old → Ready end b r new
+ready_on w g h l = let most = g.most in ready_after w g.hit g.miss (omega arith) l
+
+pub grew_after : {a n : ℕ} {k m r : Marks} → Grew a m r → k.count ≤ m.count → m.count + a ≤ k.count + n → Grew n k r
+grew_after g h i = let less = g.less in let most = g.most in record { hit = g.hit; miss = g.miss; at = g.at; near = g.near; less = omega arith; most = omega arith }
+
+pub grew_on : {a b n : ℕ} {k m r : Marks} → Grew a k m → Grew b m r → a + b ≤ n → Grew n k r
+grew_on f g h = let less = f.less in let most = f.most in grew_after g less (omega arith)
+
+pub grew_more : {a n : ℕ} {k r : Marks} → Grew a k r → a ≤ n → Grew n k r
+grew_more g h = grew_after g (omega arith) (omega arith)
+
+pub miss_grew : {end : ℕ} {k : Marks} {r : Reached} {old new : List ℕ} {step : List Instruction → Spot} → Inside k.count k.hit
+    → Reaches end k.count old new r step → 0 < r.at → Grew 1 k (record { count = r.count; hit = k.hit; miss = Some r.at; at = r.at })
+miss_grew {k = k} hit e h = record { hit = inside_on k.hit hit e.less; miss = (h, e.inside); at = e.inside; near = e.near; less = e.less; most = e.most }
+
+pub hit_grew : {end : ℕ} {k : Marks} {r : Reached} {old new : List ℕ} {step : List Instruction → Spot} → Inside k.count k.miss
+    → Reaches end k.count old new r step → 0 < r.at → Grew 1 k (record { count = r.count; hit = Some r.at; miss = k.miss; at = r.at })
+hit_grew {k = k} miss e h = record { hit = (h, e.inside); miss = inside_on k.miss miss e.less; at = e.inside; near = e.near; less = e.less; most = e.most }
+
+pub at_grew : {end : ℕ} {k : Marks} {r : Reached} {old new : List ℕ} {step : List Instruction → Spot} → Inside k.count k.hit → Inside k.count k.miss
+    → Reaches end k.count old new r step → Grew 1 k (record { count = r.count; hit = k.hit; miss = k.miss; at = r.at })
+at_grew {k = k} hit miss e =
+    record { hit = inside_on k.hit hit e.less; miss = inside_on k.miss miss e.less; at = e.inside; near = e.near; less = e.less; most = e.most }
 
 -- ---- a form with its marks, taken to another one
 
-pub mismatch_makes : (z d : ℕ) {end : ℕ} {k : Marks} {r : Reached} {old new : List ℕ} → Reaches end k.count old new r (near_return z d k.miss)
-    → Makes end k (record { count = r.count; hit = k.hit; miss = r.at; at = r.at }) old new (to_return z d)
+pub mismatch_makes : (z d : ℕ) {end : ℕ} {k : Marks} {r : Reached} {old new : List ℕ} → Reaches end k.count old new r (near_return z d (place_of k.miss))
+    → Makes end k (record { count = r.count; hit = k.hit; miss = Some r.at; at = r.at }) old new (to_return z d)
 unfolding to_return
 mismatch_makes z d e l f h =
     rw h.miss
@@ -122,12 +174,11 @@ mismatch_makes z d e l f h =
       code = e.code l f.code h.count h.code;
     })
 
-pub match_makes : (m d place : ℕ) {end : ℕ} {k : Marks} {r : Reached} {old new : List ℕ} → place ≡ 0
-    → Reaches end k.count old new r (near_return jump_reach m k.hit)
-    → Makes end k (record { count = r.count; hit = r.at; miss = k.miss; at = r.at }) old new (plant m d (leaf (destination place)))
-unfolding plant plant_leaf destination
-match_makes m d place p e z f h =
-    rw (p, h.hit)
+pub match_makes : (m d : ℕ) {end : ℕ} {k : Marks} {r : Reached} {old new : List ℕ} → Reaches end k.count old new r (near_return jump_reach m (place_of k.hit))
+    → Makes end k (record { count = r.count; hit = Some r.at; miss = k.miss; at = r.at }) old new (plant m d (leaf to_match))
+unfolding plant plant_leaf
+match_makes m d e z f h =
+    rw h.hit
     (record {
       count = e.count f.code h.count;
       hit = e.at f.code h.count;
@@ -136,12 +187,10 @@ match_makes m d place p e z f h =
       code = e.code z f.code h.count h.code;
     })
 
-pub rules_makes : (m d place : ℕ) {end : ℕ} {k : Marks} {r : Reached} {old new : List ℕ} → (place ≡ 0 → ⊥)
-    → Reaches end k.count old new r (near_place place)
-    → Makes end k (record { count = r.count; hit = k.hit; miss = k.miss; at = r.at }) old new (plant m d (leaf (destination place)))
-unfolding plant plant_leaf destination
-rules_makes m d zero p e z f h = absurd (p refl)
-rules_makes m d (suc place) p e z f h =
+pub rules_makes : (m d place : ℕ) {end : ℕ} {k : Marks} {r : Reached} {old new : List ℕ} → Reaches end k.count old new r (near_place place)
+    → Makes end k (record { count = r.count; hit = k.hit; miss = k.miss; at = r.at }) old new (plant m d (leaf (to_rules place)))
+unfolding plant plant_leaf
+rules_makes m d place e z f h =
     record {
       count = e.count f.code h.count;
       hit = h.hit;
@@ -150,33 +199,34 @@ rules_makes m d (suc place) p e z f h =
       code = e.code z f.code h.count h.code;
     }
 
-comparison_is : (t : Comparison) (n hit miss : ℕ) → record { code = code_of t; jt = hit; jf = miss; k = n } ≡ comparing t n hit miss
+comparison_is : (t : Comparison) (n hit miss : ℕ) → record { code = code_of t; jt = hit; jf = miss; k = n } ≡ comparing (kind_of t) n hit miss
 unfolding comparing
-comparison_is equal n hit miss = refl
-comparison_is at_least n hit miss = refl
-comparison_is above n hit miss = refl
+comparison_is Equal n hit miss = refl
+comparison_is AtLeast n hit miss = refl
+comparison_is Above n hit miss = refl
 
-pub compare_makes : (code n hit : ℕ) {end : ℕ} {k : Marks} {r : Reached} {old mid new : List ℕ} → Reaches end k.count old mid r (near_place hit)
-    → ((z : List ℕ) (p : List Instruction) → length p ≡ r.count → Ends z end p mid
-    → Ends z end (record { code = code; jt = r.count - r.at; jf = r.count - k.at; k = n } ∷ p) new)
-    → (t : Comparison) → code ≡ code_of t
-    → Makes end k (record { count = r.count + 1; hit = k.hit; miss = k.miss; at = r.count + 1 }) old new (compare_first t n hit)
+pub compare_makes : (t : Comparison) (code n hit : ℕ) {end : ℕ} {k : Marks} {r q : Reached} {old mid new : List ℕ} → code ≡ code_of t
+    → Reaches end k.count old mid r (near_place hit)
+    → Reaches end r.count mid new q (in_front (record { code = code; jt = r.count - r.at; jf = r.count - k.at; k = n }))
+    → Makes end k (record { count = q.count; hit = k.hit; miss = k.miss; at = q.at }) old new (compare_first (kind_of t) n hit)
 unfolding compare_first
-compare_makes code n hit {k = k} {r = r} e put t c z f h =
+compare_makes t code n hit {k = k} {r = r} c e put z f h =
     let l = e.count f.code h.count in
-    let w = put z _ l (e.code z f.code h.count h.code) in
-    rw (l, e.at f.code h.count, h.at)
+    let w = put.code z _ l (e.code z f.code h.count h.code) in
+    let count = put.count _ l in
+    let at = put.at _ l in
+    rw (e.at f.code h.count, h.at)
     (record {
       count = omega arith;
       hit = h.hit;
       miss = h.miss;
       at = omega arith;
-      code = rw (c, comparison_is t n (r.count - r.at) (r.count - k.at)) at w;
+      code = rw (l, ← comparison_is t n (r.count - r.at) (r.count - k.at), ← c) w;
     })
 
 -- ---- trees
 
-pub node_makes : (m d : ℕ) (t : Comparison) (n : ℕ) (hit miss : Tree) {end : ℕ} {k a b r : Marks} {old mid mid' new : List ℕ}
+pub node_makes : (m d : ℕ) (t : form.Comparison) (n : ℕ) (hit miss : Tree) {end : ℕ} {k a b r : Marks} {old mid mid' new : List ℕ}
     → Makes end k a old mid (plant m d hit) → Makes end a b mid mid' (plant m d miss) → Makes end b r mid' new (compare_first t n a.at)
     → Makes end k r old new (plant m d (node t n hit miss))
 unfolding plant

@@ -1,13 +1,13 @@
 -- A form while it is written: its marks, which are all that the code carries, and its instructions in the buffer. A function that
 -- writes says that it takes whatever form the marks are those of to another one.
-use Rattle.std.specs.Prelude.{◌≡◌, Bool, cond, List, ℕ, ◌+◌, ◌*◌, ◌≤◌, length}
+use Rattle.std.specs.Prelude.{◌≡◌, Bool, cond, List, ℕ, ◌+◌, ◌*◌, ◌≤◌, ◌<◌, length, Option, Some, None, IfSome}
 use Rattle.definitions.specs.declared.Instruction.{Instruction}
 use Rattle.definitions.specs.Word.{number_at}
 use Rattle.definitions.specs.Machine.{filter_bytes}
 use Rattle.bpf.specs.Place.{place_before}
 use Rattle.definitions.specs.RuleSet.{RuleSet, with_entries}
 use Rattle.set_view.specs.Parts.{entries_here, set_here}
-use Rattle.definitions.specs.SearchForm.{Form, Spot, near_return, open_block, Comparison, equal, at_least, above, planted}
+use Rattle.definitions.specs.SearchForm.{Form, Spot, near_return, open_block, planted}
 use Rattle.search_writer.specs.declared.Marks.{Marks}
 use Rattle.search_writer.specs.declared.Reached.{Reached}
 
@@ -17,10 +17,19 @@ pub record Ends (z : List ℕ) (end : ℕ) (p : List Instruction) (out : List �
   pub room : end ≤ length z
   pub there : 8 * length p ≤ end → out ≡ place_before z end (filter_bytes p)
 
+-- a return, if there is one, is in a code of n instructions
+abbrev pub Inside : ℕ → Option ℕ → Type 0
+Inside n place = IfSome place (λ at. (0 < at) × (at ≤ n))
+
+-- its place as a form has it, 0 where there is none
+abbrev pub place_of : Option ℕ → ℕ
+place_of None = 0
+place_of (Some at) = at
+
 pub record Holds (z : List ℕ) (end : ℕ) (f : Form) (k : Marks) (out : List ℕ) : Type 0 where
   pub count : length f.code ≡ k.count
-  pub hit : f.match_return ≡ k.hit
-  pub miss : f.mismatch_return ≡ k.miss
+  pub hit : f.match_return ≡ place_of k.hit
+  pub miss : f.mismatch_return ≡ place_of k.miss
   pub at : f.at ≡ k.at
   pub code : Ends z end f.code out
 
@@ -47,23 +56,17 @@ to_return z d f =
 unfoldable pub open_if : Bool → ℕ → Form → Form
 open_if b d f = cond b (open_block d f) f
 
--- a comparison's code
-abbrev pub code_of : Comparison → ℕ
-code_of equal = 0x15
-code_of at_least = 0x35
-code_of above = 0x25
-
 -- what is asked of marks: the returns are in the code, and so many instructions more are not too many to be counted
 pub record Ready (end more : ℕ) (k : Marks) (out : List ℕ) : Type 0 where
   pub room : end ≤ length out
-  pub hit : k.hit ≤ k.count
-  pub miss : k.miss ≤ k.count
+  pub hit : Inside k.count k.hit
+  pub miss : Inside k.count k.miss
   pub small : k.count + more ≤ 16777216
 
 -- what comes of it: no more than so many were added, and the form is entered nearby
 pub record Grew (more : ℕ) (k r : Marks) : Type 0 where
-  pub hit : r.hit ≤ r.count
-  pub miss : r.miss ≤ r.count
+  pub hit : Inside r.count r.hit
+  pub miss : Inside r.count r.miss
   pub at : r.at ≤ r.count
   pub near : r.count ≤ r.at + 250
   pub less : k.count ≤ r.count

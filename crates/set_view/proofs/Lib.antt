@@ -1,3 +1,4 @@
 pub mod Agree
-pub mod Conditions
+pub mod ConditionBytes
 pub mod Walk
+pub mod Left

@@ -1,6 +1,6 @@
 -- Laws of a counted walk over a set's bytes, once for parts of any kind: one part more, none left, where the walk ends, and that the
 -- next part ends inside where all that are left do; and what they say of rules and entries.
-use mathlib.Core.Path.{◌≡◌, refl, ap}
+use mathlib.Core.Path.{◌≡◌, refl, ap, ◌∙◌}
 use mathlib.Core.Bool.{true, false, not}
 use mathlib.Core.List.{List, [], ◌∷◌}
 use Prim.Native.Nat.{ℕ, zero, suc, ◌+◌, ◌-◌, ◌*◌, ◌≤◌, ◌<◌}
@@ -25,6 +25,15 @@ module _ {A : Type 0} (here : ℕ → A) (past : ℕ → ℕ) where
   unfolding parts
   parts_none n at e = rw e
 
+  -- of n parts k are passed: one more, and none left
+  pub parts_next : (n k at : ℕ) → k < n → parts here past (n - k) at ≡ here at ∷ parts here past (n - (k + 1)) (past at)
+  parts_next n k at h =
+      let e : n - k - 1 ≡ n - (k + 1) = omega arith in
+      parts_more (n - k) at (omega arith) ∙ rw e
+
+  pub parts_end : (n k at : ℕ) → n ≤ k → parts here past (n - k) at ≡ []
+  parts_end n k at h = parts_none (n - k) at (omega arith)
+
   pub parts_many : (n at : ℕ) → length (parts here past n at) ≡ n
   unfolding parts
   parts_many zero at = refl
@@ -46,6 +55,14 @@ module _ (past : ℕ → ℕ) where
   pub behind_none : (n at : ℕ) → n ≡ 0 → behind past n at ≡ at
   unfolding behind
   behind_none n at e = rw e
+
+  pub behind_next : (n k at : ℕ) → k < n → behind past (n - k) at ≡ behind past (n - (k + 1)) (past at)
+  behind_next n k at h =
+      let e : n - k - 1 ≡ n - (k + 1) = omega arith in
+      behind_more (n - k) at (omega arith) ∙ rw e
+
+  pub behind_end : (n k at : ℕ) → n ≤ k → behind past (n - k) at ≡ at
+  behind_end n k at h = behind_none (n - k) at (omega arith)
 
   module _ (further : (at : ℕ) → at ≤ past at) where
     pub behind_further : (n at : ℕ) → at ≤ behind past n at
@@ -69,6 +86,16 @@ module _ (s : List ℕ) where
   pub rule_inside : (n at end : ℕ) → (n ≡ 0 → ⊥) → rules_past s n at ≡ end → end ≤ length s → rule_past s at ≤ length s
   rule_inside n at end = inside (rule_past s) rule_further n at end (length s)
 
+  -- of n rules k are passed: the next one is inside, and the others end where they did
+  pub rules_next : (n k at : ℕ) → k < n → rules_past s (n - k) at ≡ rules_past s (n - (k + 1)) (rule_past s at)
+  rules_next = behind_next (rule_past s)
+
+  pub rules_end : (n k at : ℕ) → n ≤ k → rules_past s (n - k) at ≡ at
+  rules_end = behind_end (rule_past s)
+
+  pub rules_room : (n k at : ℕ) → k < n → rules_past s (n - k) at ≤ length s → rule_past s at ≤ length s
+  rules_room n k at h r = rule_inside (n - k) at _ (omega arith) refl r
+
   -- ---- entries
 
   pub entry_past_lem : (at : ℕ) → entry_past s at ≡ rules_past s (number_at 4 s (at + 4)) (at + 8)
@@ -86,6 +113,9 @@ module _ (s : List ℕ) where
 
   pub entry_inside : (n at end : ℕ) → (n ≡ 0 → ⊥) → entries_past s n at ≡ end → end ≤ length s → entry_past s at ≤ length s
   entry_inside n at end = inside (entry_past s) entry_onward n at end (length s)
+
+  pub entry_room : (n at : ℕ) → (n ≡ 0 → ⊥) → entries_past s n at ≤ length s → at + 8 ≤ length s
+  entry_room n at h r = let i = entry_inside n at _ h refl r in omega (arith, entry_further at)
 
   -- the rules of an entry: they end in the bytes where the entry does
   pub rules_inside : (at : ℕ) → entry_past s at ≤ length s

@@ -7,18 +7,19 @@ use native.Mathlib.Omega.{arith}
 use borrow.Author.Tests.{eq-eqb, ne_eqb, eqb-true, eqb-false}
 use lib.Dec.{eqb}
 use lib.ListN.{length, take, drop}
+use Rattle.std.proofs.Common.{Option, Some, None}
 use Rattle.definitions.specs.Word.{number_at}
 use Rattle.definitions.specs.RuleSet.{Entry}
 use Rattle.theorems.proofs.Tests.{both_true}
 use Rattle.definitions.specs.SearchForm.{bodies, to_match, to_rules, Span, is_match, alone, plain_spans, entry_spans, spans, lowest, singles}
 use Rattle.search_form.proofs.Spans.{spans_some}
 use Rattle.search_bodies.specs.Here.{bodies_here}
-use Rattle.search_bodies.proofs.Bodies.{entries_here_lem, bodies_long, bodies_there, entry_body_none}
+use Rattle.search_bodies.proofs.Bodies.{entries_here_lem, bodies_long, entry_body_none}
 use Rattle.set_view.specs.Parts.{entries_here, entries_past, entry_here, entry_past, parts, plain_here, rules_here}
 use Rattle.set_view.proofs.Walk.{behind_more, entries_further, plain_is, plain_past}
 use Rattle.spans.specs.declared.Standing.{Standing}
 use Rattle.spans.specs.declared.Run.{Run}
-use Rattle.spans.specs.Spans.{spans_here, spans_from, destination, Stands, Passes, Gathers, IsNext}
+use Rattle.spans.specs.Spans.{spans_here, spans_from, Stands, Within, Passes, Gathers, IsNext}
 
 -- ---- runs
 
@@ -170,20 +171,14 @@ run_plain s c p r number e z passed g =
       stands = g.stands;
       fewer = omega (arith, g.fewer, passed.fewer);
       behind = omega (arith, g.behind, passed.behind);
-      place = rw g.place (omega arith);
+      place = rw g.place tt;
     }
 
-there : (n : ℕ) → 1 ≤ n → destination n ≡ to_rules n
-unfolding destination
-there zero h = absurd (omega arith)
-there (suc n) h = refl
-
 pub run_ruled : (s : List ℕ) (c p : Standing) (number : ℕ) → number ≡ number_at 4 s c.at → (number_at 4 s (c.at + 4) ≡ 0 → ⊥)
-    → Stands s c → Passes s c p → IsNext s c (record { first = number; last = number; place = c.place; next = p })
+    → Stands s c → Passes s c p → IsNext s c (record { first = number; last = number; place = Some c.place; next = p })
 run_ruled s c p number e z stood passed =
-    let b = rw stood.place at (bodies_there s c.left c.at (number_at 4 s 8) (number_at 4 s 4)) in
     record {
-      spans = rw (there c.place b, ← stood.place, passed.entries, e) (ruled_spans s c.at (number_at 4 s 8) (number_at 4 s 4) (entries_here s p.left p.at) z);
+      spans = rw (← stood.place, passed.entries, e) (ruled_spans s c.at (number_at 4 s 8) (number_at 4 s 4) (entries_here s p.left p.at) z);
       stands = passed.stands;
       fewer = passed.fewer;
       behind = passed.behind;
@@ -223,9 +218,6 @@ singles_more x ss = refl
 pub singles_none : singles [] ≡ true
 unfolding singles
 singles_none = refl
-
-pub drop_zero : (n : ℕ) (ss : List Span) → n ≡ 0 → ss ≡ drop n ss
-drop_zero n ss e = rw e
 
 pub take_zero : (n : ℕ) (ss : List Span) → n ≡ 0 → take n ss ≡ []
 take_zero n ss e = rw e

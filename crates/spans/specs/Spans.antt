@@ -1,5 +1,5 @@
 -- The spans of a rule set, read from its bytes from a cursor on: what is there, and what a function that passes one of them says.
-use Rattle.std.specs.Prelude.{◌≡◌, List, ◌∷◌, ℕ, zero, suc, ◌≤◌, ◌<◌, length}
+use Rattle.std.specs.Prelude.{◌≡◌, List, ◌∷◌, ℕ, ◌≤◌, ◌<◌, length, Option, Some, None, IfSome}
 use Rattle.definitions.specs.Word.{number_at}
 use Rattle.definitions.specs.SearchForm.{Destination, to_match, to_rules, Span, plain_spans, spans}
 use Rattle.search_bodies.specs.Here.{bodies_here}
@@ -28,13 +28,17 @@ pub record Passes (s : List ℕ) (c r : Standing) : Type 0 where
   pub fewer : r.left < c.left
   pub behind : r.place ≤ c.place
 
--- where the numbers of a run go: a place of rules, or 0 where there are none
-unfoldable pub destination : ℕ → Destination
-destination zero = to_match
-destination (suc at) = to_rules (suc at)
+-- where the numbers of a run go: to the place of its rules, or, where there are none, to a match return
+abbrev pub destination : Option ℕ → Destination
+destination None = to_match
+destination (Some at) = to_rules at
 
 abbrev pub span_of : Run → Span
 span_of r = record { first = r.first; last = r.last; to = destination r.place }
+
+-- a place, if there is one, is no further from the end than n instructions are
+abbrev pub Within : ℕ → Option ℕ → Type 0
+Within n place = IfSome place (λ at. at ≤ n)
 
 -- a number without rules, with those behind it that follow it
 pub record Gathers (s : List ℕ) (c : Standing) (first : ℕ) (r : Run) : Type 0 where
@@ -42,7 +46,7 @@ pub record Gathers (s : List ℕ) (c : Standing) (first : ℕ) (r : Run) : Type 
   pub stands : Stands s r.next
   pub fewer : r.next.left ≤ c.left
   pub behind : r.next.place ≤ c.place
-  pub place : r.place ≡ 0
+  pub place : r.place ≡ None
 
 -- the run that stands at a cursor
 pub record IsNext (s : List ℕ) (c : Standing) (r : Run) : Type 0 where
@@ -50,4 +54,4 @@ pub record IsNext (s : List ℕ) (c : Standing) (r : Run) : Type 0 where
   pub stands : Stands s r.next
   pub fewer : r.next.left < c.left
   pub behind : r.next.place ≤ c.place
-  pub place : r.place ≤ c.place
+  pub place : Within c.place r.place

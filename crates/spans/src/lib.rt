@@ -12,19 +12,19 @@ ghost use Rattle.spans.specs.Spans.{spans_from, Stands, Passes, Gathers, IsNext}
 const CHAIN_SPANS: usize = 3;
 
 // Where entries are read: the place, how many are left, and where the code of their rules begins, counted from the filter's end.
-#[derive(Clone, Copy)]
+#[derive(Clone, Copy, Debug, PartialEq, Eq)]
 pub struct Standing {
     pub at: usize,
     pub left: u32,
     pub place: usize,
 }
 
-// A span as it is read: its numbers, the place of its rules (0: it has none), and the cursor behind it.
-#[derive(Clone, Copy)]
+// A span as it is read: its numbers, the place of its rules, if it has any, and the cursor behind it.
+#[derive(Clone, Copy, Debug, PartialEq, Eq)]
 pub struct Run {
     pub first: u32,
     pub last: u32,
-    pub place: usize,
+    pub place: Option<usize>,
     pub next: Standing,
 }
 
@@ -33,9 +33,8 @@ fn pass(s: &[u8], c: Standing) -> Standing
     requires { Stands s.now c × (c.left ≡ 0 → ⊥) }
     ensures { Passes s.now c result }
 {
-    let at = c.at;
-    let rules = bpf::u32_at(s, at + 4);
-    let body = search_bodies::body_length(s, rules, at + 8);
+    let rules = bpf::u32_at(s, c.at + 4);
+    let body = search_bodies::body_length(s, rules, c.at + 8);
     Standing {
         at: body.past,
         left: c.left - 1,
@@ -48,11 +47,7 @@ fn follows(s: &[u8], left: u32, at: usize, last: u32) -> bool
     requires { Reach s.now (entries_past s.now left at) }
     ensures { result ≡ (plain_here s.now left at && eqb (number_at 4 s.now at) (last + 1)) }
 {
-    if set_view::plain_here(s, left, at) {
-        let number = bpf::u32_at(s, at);
-        return (number as usize) == (last as usize) + 1;
-    }
-    false
+    set_view::plain_here(s, left, at) && u64::from(bpf::u32_at(s, at)) == u64::from(last) + 1
 }
 
 // The run of a number without rules, the cursor standing behind its entry.
@@ -65,19 +60,14 @@ fn gather(s: &[u8], c: Standing, first: u32) -> Run
     let mut left = c.left;
     while follows(s, left, at, last) {
         last = bpf::u32_at(s, at);
-        at = at + 8;
-        left = left - 1;
+        at += 8;
+        left -= 1;
     }
-    let next = Standing {
-        at: at,
-        left: left,
-        place: c.place,
-    };
     Run {
-        first: first,
-        last: last,
-        place: 0,
-        next: next,
+        first,
+        last,
+        place: None,
+        next: Standing { at, left, ..c },
     }
 }
 
@@ -86,18 +76,18 @@ pub fn next_run(s: &[u8], c: Standing) -> Run
     requires { Stands s.now c × (c.left ≡ 0 → ⊥) }
     ensures { IsNext s.now c result }
 {
-    let at = c.at;
-    let number = bpf::u32_at(s, at);
-    let rules = bpf::u32_at(s, at + 4);
+    let number = bpf::u32_at(s, c.at);
+    let rules = bpf::u32_at(s, c.at + 4);
     let next = pass(s, c);
     if rules == 0 {
-        return gather(s, next, number);
-    }
-    Run {
-        first: number,
-        last: number,
-        place: c.place,
-        next: next,
+        gather(s, next, number)
+    } else {
+        Run {
+            first: number,
+            last: number,
+            place: Some(c.place),
+            next,
+        }
     }
 }
 
@@ -109,9 +99,8 @@ pub fn count_runs(s: &[u8], c: Standing) -> usize
     let mut count: usize = 0;
     let mut here = c;
     while here.left != 0 {
-        let run = next_run(s, here);
-        here = run.next;
-        count = count + 1;
+        here = next_run(s, here).next;
+        count += 1;
     }
     count
 }
@@ -122,11 +111,8 @@ pub fn skip(s: &[u8], c: Standing, n: usize) -> Standing
     ensures { Stands s.now result × (spans_from s.now result ≡ drop n (spans_from s.now c)) × (result.place ≤ c.place) }
 {
     let mut here = c;
-    let mut left = n;
-    while left != 0 {
-        let run = next_run(s, here);
-        here = run.next;
-        left = left - 1;
+    for _ in 0..n {
+        here = next_run(s, here).next;
     }
     here
 }
@@ -137,14 +123,12 @@ fn all_single(s: &[u8], c: Standing, n: usize) -> bool
     ensures { result ≡ singles (take n (spans_from s.now c)) }
 {
     let mut here = c;
-    let mut left = n;
-    while left != 0 {
+    for _ in 0..n {
         let run = next_run(s, here);
         if run.first != run.last {
             return false;
         }
         here = run.next;
-        left = left - 1;
     }
     true
 }
@@ -154,11 +138,5 @@ pub fn is_few(s: &[u8], c: Standing, n: usize) -> bool
     requires { Stands s.now c × (n ≤ length (spans_from s.now c)) }
     ensures { result ≡ few (take n (spans_from s.now c)) }
 {
-    if n <= 1 {
-        return true;
-    }
-    if n <= CHAIN_SPANS {
-        return all_single(s, c, n);
-    }
-    false
+    n <= 1 || (n <= CHAIN_SPANS && all_single(s, c, n))
 }

@@ -4,7 +4,8 @@ use mathlib.Core.List.{List, ◌++◌, append_assoc}
 use Prim.Native.Nat.{ℕ, ◌+◌, ◌^◌, ◌≤◌, ◌<◌}
 use native.Mathlib.Omega.{arith}
 use lib.ListN.{length, take, drop, length-append, length-take}
-use lib.Seq.{take_at, drop_at, drop-append-add}
+use lib.Seq.{take_at, drop_at, drop-append-add, drop-drop}
+use borrow.Rule.Slice.PartMut.{put_mid}
 use Rattle.definitions.specs.Word.{bytes_of, number_at}
 use Rattle.theorems.proofs.Words.{length_bytes, number_here, number_front}
 use Rattle.bpf.specs.Place.{place}
@@ -28,6 +29,11 @@ put_long l at names v m e h =
       place_next l at (at + 8) names (bytes_of 8 v) (rw e) (simp length_bytes (omega arith)),
       place_next l at (at + 16) (names ++ bytes_of 8 v) (bytes_of 8 m) (simp (length-append, length_bytes, e)) (simp length_bytes (omega arith)),
     ) (simp append_assoc)
+
+-- a part of the buffer that was written over
+pub written_over : (l bs : List ℕ) (at k : ℕ) → k ≡ length bs → put_mid at k l bs ≡ place l at bs
+unfolding place
+written_over l bs at k e = rw (e, drop-drop (length bs) at l) (sym (append_assoc (take at l) bs (drop (at + length bs) l)))
 
 -- what is put at the front is taken from there
 pub take_front : (l bs : List ℕ) (n : ℕ) → length bs ≡ n → take n (place l 0 bs) ≡ bs

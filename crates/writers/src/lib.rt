@@ -19,66 +19,55 @@ fn raise(out: &mut [u8], at: usize)
     ensures { out.new ≡ place out.old at (bytes_of 4 (number_at 4 out.old at + 1)) }
 {
     let count = bpf::u32_at(out, at);
-    write_u32(out, at, count as u64 + 1);
+    write_u32(out, at, u64::from(count) + 1);
 }
 
 fn told(w: Writer, code: u32) -> Writer
     ensures { result ≡ record { code = code; end = w.end; entry = w.entry; rule = w.rule } }
 {
-    Writer {
-        code: code,
-        end: w.end,
-        entry: w.entry,
-        rule: w.rule,
-    }
+    Writer { code, ..w }
 }
 
 // Whether the places of a state are where a set can have them.
+#[tactic(auto, unfolding(definitions::specs::Writers::state_fits))]
 fn state_fits(w: Writer) -> bool
     ensures { result ≡ state_fits w }
 {
     let end = w.end as usize;
-    if end < 16 {
-        return false;
-    }
-    if end < w.entry as usize + 8 {
-        return false;
-    }
-    w.rule as usize + 4 <= end
+    16 <= end && w.entry as usize + 8 <= end && w.rule as usize + 4 <= end
 }
 
 // Whether a part of so many bytes is taken, and else why not.
+#[tactic(auto, unfolding(definitions::specs::Writers::code_for))]
 fn verdict(size: usize, w: Writer, good: bool, ordered: bool, more: usize) -> u32
     requires { more ≤ 24 }
     ensures { result ≡ code_for good ordered more size w }
 {
-    if !good {
-        return 1;
-    }
-    if !ordered {
-        return 2;
-    }
     let end = w.end as usize + more;
-    if size < end {
-        return 3;
+    if !good {
+        1
+    } else if !ordered {
+        2
+    } else if size < end {
+        3
+    } else if 1048576 < end {
+        4
+    } else if !state_fits(w) {
+        5
+    } else {
+        0
     }
-    if 1048576 < end {
-        return 4;
-    }
-    if !state_fits(w) {
-        return 5;
-    }
-    0
 }
 
 // Writes the head of a set with no entries.
+#[tactic(auto, using(crate::proofs::Stores::put_four), unfolding(crate::specs::Bytes::head_bytes))]
 fn write_head(out: &mut [u8], architecture: u32, mismatch: u32, on_match: u32)
     requires { 16 ≤ length out.old }
     ensures { out.new ≡ place out.old 0 (head_bytes architecture mismatch on_match) }
 {
-    write_u32(out, 0, architecture as u64);
-    write_u32(out, 4, mismatch as u64);
-    write_u32(out, 8, on_match as u64);
+    write_u32(out, 0, u64::from(architecture));
+    write_u32(out, 4, u64::from(mismatch));
+    write_u32(out, 8, u64::from(on_match));
     write_u32(out, 12, 0);
 }
 
@@ -87,7 +76,7 @@ fn not_started(code: u32) -> Writer
     ensures { result ≡ record { code = code; end = 0; entry = 0; rule = 0 } }
 {
     Writer {
-        code: code,
+        code,
         end: 0,
         entry: 0,
         rule: 0,
@@ -95,6 +84,7 @@ fn not_started(code: u32) -> Writer
 }
 
 // Starts a set: nothing is listed in it yet.
+#[tactic(auto, using(crate::proofs::Writers::begin_refused, crate::proofs::Writers::begun_set), unfolding(definitions::specs::Writers::start_code))]
 pub fn start(out: &mut [u8], architecture: u32, mismatch: u32, on_match: u32) -> Writer
     ensures { Started architecture mismatch on_match out.old out.new result }
 {
@@ -114,15 +104,17 @@ pub fn start(out: &mut [u8], architecture: u32, mismatch: u32, on_match: u32) ->
 }
 
 // Writes an entry with no rules.
+#[tactic(auto, using(bpf::proofs::Buffer::put_two))]
 fn write_entry(out: &mut [u8], at: usize, number: u32)
     requires { at + 8 ≤ length out.old }
     ensures { out.new ≡ place out.old at (bytes_of 4 number ++ bytes_of 4 0) }
 {
-    write_u32(out, at, number as u64);
+    write_u32(out, at, u64::from(number));
     write_u32(out, at + 4, 0);
 }
 
 // Lists a number, which matches whatever its arguments are until a rule is begun for it.
+#[tactic(auto, using(crate::proofs::Codes::code_zero, crate::proofs::Writers::refused, crate::proofs::Writers::listed))]
 pub fn list(out: &mut [u8], w: Writer, number: u32) -> Writer
     ensures { Added (some (with_entry number)) true 8 out.old out.new w result }
 {
@@ -141,6 +133,7 @@ pub fn list(out: &mut [u8], w: Writer, number: u32) -> Writer
 }
 
 // Begins a rule for the number that was listed last.
+#[tactic(auto, using(crate::proofs::Codes::code_zero, crate::proofs::Writers::refused, crate::proofs::Writers::begun))]
 pub fn begin_rule(out: &mut [u8], w: Writer) -> Writer
     ensures { Added (some with_rule) (not (eqb w.entry 0)) 4 out.old out.new w result }
 {
@@ -153,8 +146,8 @@ pub fn begin_rule(out: &mut [u8], w: Writer) -> Writer
     Writer {
         code: 0,
         end: w.end + 4,
-        entry: w.entry,
         rule: w.end,
+        ..w
     }
 }
 
@@ -163,16 +156,10 @@ fn write_names(out: &mut [u8], at: usize, index: u8, width: u8, operator: u8)
     requires { at + 8 ≤ length out.old }
     ensures { out.new ≡ place out.old at (names_bytes index width operator) }
 {
-    out[at] = index;
-    out[at + 1] = width;
-    out[at + 2] = operator;
-    out[at + 3] = 0;
-    out[at + 4] = 0;
-    out[at + 5] = 0;
-    out[at + 6] = 0;
-    out[at + 7] = 0;
+    out[at..at + 8].copy_from_slice(&[index, width, operator, 0, 0, 0, 0, 0]);
 }
 
+#[tactic(auto, using(crate::proofs::Stores::put_long), unfolding(crate::specs::Bytes::condition_bytes))]
 pub fn write_condition(
     out: &mut [u8],
     at: usize,
@@ -192,6 +179,7 @@ pub fn write_condition(
 
 // Adds a condition to the rule that was begun last. Every index that a byte holds is taken, as in the format: which ones a call has is
 // for compiling to say.
+#[tactic(auto, using(crate::proofs::Codes::code_zero, crate::proofs::Writers::refused, crate::proofs::Writers::coded, crate::proofs::Writers::added))]
 pub fn add_condition(
     out: &mut [u8],
     w: Writer,
@@ -213,7 +201,6 @@ pub fn add_condition(
     Writer {
         code: 0,
         end: w.end + 24,
-        entry: w.entry,
-        rule: w.rule,
+        ..w
     }
 }

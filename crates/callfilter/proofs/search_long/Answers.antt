@@ -11,5 +11,5 @@ returns-then-size-lt-TOO_MANY c = λ e. absurd (omega (arith, ltb-false c.args.s
 pub long_entry-requires : goal.long_entry-requires
 long_entry-requires c = (c.requires.0, le-ltb (search_size (set_here c.args.set.now)) too_many (omega (arith, c.requires.1, c.if-size-lt-TOO_MANY.false)))
 
-pub returns : goal.returns
-returns c = λ e. c.long_entry.ensures
+pub returns-else-size-lt-TOO_MANY : goal.returns-else-size-lt-TOO_MANY
+returns-else-size-lt-TOO_MANY c = λ e. c.long_entry.ensures

@@ -1,12 +1,9 @@
 -- `each_taken` meets its contract. The loop's invariant: what is left, checked from here, is the whole.
 use mathlib.Core.Path.{◌≡◌}
-use Prim.Native.Nat.{◌-◌, ◌*◌, ◌≤◌}
+use Prim.Native.Nat.{◌-◌, ◌*◌}
 use Rattle.definitions.specs.Machine.{instructions_at, filter_of}
 use Rattle.definitions.specs.Kernel.{each_taken}
 use Rattle.checks.proofs.each_taken.Given as goal
 
 abbrev pub invariant-loop-place : goal.invariant-loop-place
-invariant-loop-place l = (l.place ≤ l.n) × (each_taken 0 l.n (filter_of l.filter) ≡ each_taken l.place l.n (instructions_at l.filter (l.n - l.place) (l.place * 8)))
-
-abbrev pub decreases-loop-place : goal.decreases-loop-place
-decreases-loop-place l = l.n - l.place
+invariant-loop-place l = each_taken 0 l.n (filter_of l.filter) ≡ each_taken l.place l.n (instructions_at l.filter (l.n - l.place) (l.place * 8))

@@ -6,20 +6,18 @@ use Rattle.definitions.specs.Outcome.{decided, decided_of}
 use Rattle.decision.proofs.Meanings.{decided_refused, decides}
 use Rattle.decision.proofs.decide.Goals as goal
 
-pub returns-then-call-ne64 : goal.returns-then-call-ne64
+pub returns-in_default : goal.returns-in_default
 unfolding decided_of
-returns-then-call-ne64 c = rw (ne_eqb _ _ c.if-call-ne64.true) (c.decided.ensures ∙ ap (λ (f : Fault). decided f 0) c.fault.ensures)
+returns-in_default c = rw (ne_eqb _ _ c.in_default.ensures.1) (c.decided.ensures ∙ ap (λ (f : Fault). decided f 0) c.fault.ensures)
 
 pub returns-then-found-ne0 : goal.returns-then-found-ne0
 returns-then-found-ne0 c =
-    c.decided-then-found-ne0.ensures ∙ sym (decided_refused c.args.set.now c.args.call.now c.judge.result c.if-call-ne64.false c.judge.ensures.0 c.if-found-ne0.true)
+    c.decided-then-found-ne0.ensures ∙ sym (decided_refused c.args.set.now c.args.call.now c.judge.result c.in-Ok.ensures.1.long c.judge.ensures.0 c.if-found-ne0.true)
 
 pub meaning-requires : goal.meaning-requires
-meaning-requires c =
-    let d = decides c.args.set.now c.args.call.now c.judge.result c.if-call-ne64.false c.judge.ensures.0 c.if-found-ne0.false in
-    record { readable = d.0; call_len = c.if-call-ne64.false }
+meaning-requires c = (decides c.args.set.now c.args.call.now c.judge.result c.in-Ok.ensures.1.long c.judge.ensures.0 c.if-found-ne0.false).0
 
 pub returns : goal.returns
 returns c =
-    let meant = decides c.args.set.now c.args.call.now c.judge.result c.if-call-ne64.false c.judge.ensures.0 c.if-found-ne0.false in
-    c.decided-2.ensures ∙ ap (decided c.judge.result.fault) c.meaning.ensures ∙ sym meant.1
+    let meant = decides c.args.set.now c.args.call.now c.judge.result c.in-Ok.ensures.1.long c.judge.ensures.0 c.if-found-ne0.false in
+    c.decided-2.ensures ∙ ap (decided c.judge.result.fault) (rw c.in-Ok.ensures.1.same at c.meaning.ensures) ∙ sym meant.1

@@ -3,10 +3,10 @@ use borrow.Author.Tests.{eq-eqb, ne_eqb}
 use Rattle.definitions.specs.RuleSet.{in_second_table}
 use Rattle.decision.proofs.in_second_table.Goals as goal
 
-pub returns-then-bit-eq0 : goal.returns-then-bit-eq0
+pub returns-then-n-ne0 : goal.returns-then-n-ne0
 unfolding in_second_table
-returns-then-bit-eq0 c = rw (eq-eqb _ _ c.if-bit-eq0.true)
+returns-then-n-ne0 c = rw (ne_eqb _ _ c.if-n-ne0.true)
 
-pub returns : goal.returns
+pub returns-else-n-ne0 : goal.returns-else-n-ne0
 unfolding in_second_table
-returns c = rw (ne_eqb _ _ c.if-bit-eq0.false)
+returns-else-n-ne0 c = rw (eq-eqb _ _ c.if-n-ne0.false)

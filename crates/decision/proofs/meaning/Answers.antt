@@ -14,11 +14,8 @@ returns-then-kills c =
     let killed = sym (rw (c.u32_at-2.ensures, c.u32_at-a.ensures) at c.kills.ensures) ∙ c.if-kills.true in
     sym (meaning_killed (call_of c.args.call.now) c.args.s.now own killed)
 
-pub listed-requires : goal.listed-requires
-listed-requires c = record { call_len = c.requires.call_len; reach = rw c.u32_at-n.ensures (c.requires.readable.entries, c.requires.readable.size) }
-
 pub returns : goal.returns
 returns c =
     let own = sym c.u32_at.ensures ∙ c.if-u32_at-architecture_word.false ∙ rw c.u32_at-a.ensures at c.architecture_word.ensures in
     let served = sym (rw (c.u32_at-2.ensures, c.u32_at-a.ensures) at c.kills.ensures) ∙ c.if-kills.false in
-    rw (meaning_own (call_of c.args.call.now) c.args.s.now own served, ← c.u32_at-d.ensures, ← c.u32_at-m.ensures, ← c.u32_at-n.ensures) c.listed.ensures
+    rw (meaning_own (call_of c.args.call.now) c.args.s.now own served) (rw (c.actions_here.ensures, c.new.ensures) at c.listed.ensures)

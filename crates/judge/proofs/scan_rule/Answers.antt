@@ -3,12 +3,12 @@ use mathlib.Core.Path.{sym, ◌∙◌}
 use Rattle.judge.proofs.Walk.{broken_off, rule_short, rule_from}
 use Rattle.judge.proofs.scan_rule.Goals as goal
 
-pub returns-then-s-at : goal.returns-then-s-at
-returns-then-s-at c = broken_off _ c.not_there.ensures (rw (rule_short _ _ c.if-s-at.true))
+pub returns-then-s-from : goal.returns-then-s-from
+returns-then-s-from c = broken_off _ (rw (rule_short _ _ c.if-s-from.true))
 
 pub returns : goal.returns
 returns c =
     record {
-      same = c.scan_conditions.ensures.same ∙ rw (c.count_fault-told.ensures, c.u32_at-n.ensures) (sym (rule_from _ _ _ _ _ c.if-s-at.false));
+      same = c.scan_conditions.ensures.same ∙ rw (c.count_fault.ensures, c.u32_at-n.ensures) (sym (rule_from _ _ _ _ _ c.if-s-from.false));
       inside = c.scan_conditions.ensures.inside;
     }

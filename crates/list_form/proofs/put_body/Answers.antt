@@ -30,7 +30,7 @@ put_rules-requires c =
     let e = body_some a.s.now a.n a.from a.m c.if-n-eq0.false in
     record { reach = c.requires.reach; from_in_bounds = rw (← e) c.requires.from_in_bounds }
 
-pub returns : goal.returns
-returns c =
+pub returns-else-n-eq0 : goal.returns-else-n-eq0
+returns-else-n-eq0 c =
     let a = c.args in
     rw (body_some a.s.now a.n a.from a.m c.if-n-eq0.false) c.put_rules.ensures

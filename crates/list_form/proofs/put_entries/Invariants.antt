@@ -8,7 +8,7 @@ use Rattle.list_form.proofs.put_entries.Given as goal
 
 abbrev pub invariant-loop-left : goal.invariant-loop-left
 invariant-loop-left l =
-    Writing l.initial.out l.at (entries_code l.m l.d (entries_here l.s l.n l.from)) l.out l.end (entries_code l.m l.d (entries_here l.s l.left l.past))
+    Writing l.initial.out l.at (entries_code l.actions.on_match l.actions.mismatch (entries_here l.s l.n l.from)) l.out l.end (entries_code l.actions.on_match l.actions.mismatch (entries_here l.s l.left l.past))
     × (entries_past l.s l.left l.past ≡ entries_past l.s l.n l.from)
 
 abbrev pub decreases-loop-left : goal.decreases-loop-left

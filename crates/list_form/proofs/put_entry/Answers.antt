@@ -27,7 +27,7 @@ pub put-requires : goal.put-requires
 put-requires c =
     let a = c.args in
     let s = a.s.now in
-    let n = entry_length s a.from a.m a.d in
+    let n = entry_length s a.from a.actions.on_match a.actions.mismatch in
     omega arith
 
 pub overflow_add-from-2 : goal.overflow_add-from-2
@@ -39,7 +39,7 @@ pub put_body-body-requires : goal.put_body-body-requires
 put_body-body-requires c =
     let a = c.args in
     let s = a.s.now in
-    let n = entry_length s a.from a.m a.d in
+    let n = entry_length s a.from a.actions.on_match a.actions.mismatch in
     let p = entry_past_lem s a.from in
     rw c.u32_at-rules.ensures (omega (arith, c.requires, c.put.auto.out))
 
@@ -47,7 +47,7 @@ pub put-requires-2 : goal.put-requires-2
 put-requires-2 c =
     let a = c.args in
     let s = a.s.now in
-    let n = entry_length s a.from a.m a.d in
+    let n = entry_length s a.from a.actions.on_match a.actions.mismatch in
     let e = rw c.u32_at-rules.ensures at c.put_body-body.ensures.1 in
     omega (arith, c.requires, c.put.auto.out, c.put_body-body.auto.out)
 
@@ -55,7 +55,7 @@ pub overflow_add-result : goal.overflow_add-result
 overflow_add-result c =
     let a = c.args in
     let s = a.s.now in
-    let n = entry_length s a.from a.m a.d in
+    let n = entry_length s a.from a.actions.on_match a.actions.mismatch in
     let e = rw c.u32_at-rules.ensures at c.put_body-body.ensures.1 in
     omega (arith, c.requires, c.well_formed)
 
@@ -63,10 +63,10 @@ pub returns : goal.returns
 returns c =
     let a = c.args in
     let s = a.s.now in
-    let n = entry_length s a.from a.m a.d in
+    let n = entry_length s a.from a.actions.on_match a.actions.mismatch in
     let e = rw c.u32_at-rules.ensures at c.put_body-body.ensures.1 in (
       rw (
-        entry_is s a.from a.m a.d,
+        entry_is s a.from a.actions.on_match a.actions.mismatch,
         c.put-2.ensures,
         c.give.ensures,
         c.put_body-body.ensures.0,
@@ -75,7 +75,7 @@ returns c =
         c.u32_at-number.ensures,
         c.u32_at-rules.ensures,
       )
-          (put_around _ _ _ _ (body_code a.m (rules_here s (number_at 4 s (a.from + 4)) (a.from + 8))) _ (omega arith) (omega (arith, c.requires))),
+          (put_around _ _ _ _ (body_code a.actions.on_match (rules_here s (number_at 4 s (a.from + 4)) (a.from + 8))) _ (omega arith) (omega (arith, c.requires))),
       omega arith,
       rw (entry_past_lem s a.from, ← c.u32_at-rules.ensures) c.put_body-body.ensures.2,
     )

@@ -12,14 +12,14 @@ pub put_entries-end-requires : goal.put_entries-end-requires
 put_entries-end-requires c =
     let n = filter_length_lem c.args.s.now in
     let at = rw (c.u32_at.ensures, c.u32_at-n.ensures) at c.put_head-at.ensures.1 in
-    rw (c.u32_at-n.ensures, c.u32_at-m.ensures, c.u32_at-d.ensures)
+    rw (c.u32_at-n.ensures, c.actions_here-actions.ensures)
     (record { reach = (c.requires.readable.entries, c.requires.readable.size); from_in_bounds = omega (arith, c.requires.s_in_bounds, c.put_head-at.auto.out) })
 
 pub put-requires : goal.put-requires
 put-requires c =
     let n = filter_length_lem c.args.s.now in
     let at = rw (c.u32_at.ensures, c.u32_at-n.ensures) at c.put_head-at.ensures.1 in
-    let end = rw (c.u32_at-n.ensures, c.u32_at-m.ensures, c.u32_at-d.ensures) at c.put_entries-end.ensures.1 in
+    let end = rw (c.u32_at-n.ensures, c.actions_here-actions.ensures) at c.put_entries-end.ensures.1 in
     omega (arith, c.requires.s_in_bounds, c.put_head-at.auto.out, c.put_entries-end.auto.out)
 
 pub returns : goal.returns
@@ -27,7 +27,7 @@ returns c =
     let s = c.args.s.now in
     let n = filter_length_lem s in
     let at = rw (c.u32_at.ensures, c.u32_at-n.ensures) at c.put_head-at.ensures.1 in
-    let end = rw (c.u32_at-n.ensures, c.u32_at-m.ensures, c.u32_at-d.ensures) at c.put_entries-end.ensures.1 in
+    let end = rw (c.u32_at-n.ensures, c.actions_here-actions.ensures) at c.put_entries-end.ensures.1 in
     rw (
       filter_is_lem s,
       c.put.ensures,
@@ -36,7 +36,6 @@ returns c =
       c.put_head-at.ensures.0,
       c.u32_at.ensures,
       c.u32_at-n.ensures,
-      c.u32_at-m.ensures,
-      c.u32_at-d.ensures,
+      c.actions_here-actions.ensures,
     )
     (put_headed _ _ _ (head_here s) (code_here s) _ at end (omega (arith, c.requires.s_in_bounds)))

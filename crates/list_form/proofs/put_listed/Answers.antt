@@ -9,7 +9,7 @@ pub returns : goal.returns
 returns c =
     let a = c.args in
     rw (
-      plain_code a.s.now a.from a.m a.d c.requires.2,
+      plain_code a.s.now a.from a.actions.on_match a.actions.mismatch c.requires.2,
       c.put-2.ensures,
       c.give.ensures,
       c.put_always.ensures,
@@ -17,4 +17,4 @@ returns c =
       c.if_equal.ensures,
       c.u32_at-listed.ensures,
     )
-    (put_around _ _ _ _ (body_code a.m []) _ (rw body_always (omega arith)) (omega (arith, c.requires)))
+    (put_around _ _ _ _ (body_code a.actions.on_match []) _ (rw body_always (omega arith)) (omega (arith, c.requires)))

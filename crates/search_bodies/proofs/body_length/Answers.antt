@@ -12,8 +12,8 @@ returns-then-n-eq0 c =
     let s = a.s.now in
     (λ m d. rw (entry_body_none s a.n a.from m d c.if-n-eq0.true), sym (behind_none (rule_past s) a.n a.from c.if-n-eq0.true), omega arith)
 
-pub returns : goal.returns
-returns c =
+pub returns-else-n-eq0 : goal.returns-else-n-eq0
+returns-else-n-eq0 c =
     let a = c.args in
     let some = c.if-n-eq0.false in
     (λ m d. omega (arith, entry_body_long a.s.now a.n a.from m d some, c.rules_length-rules.ensures.0 m), c.rules_length-rules.ensures.1, omega (arith, c.rules_length-rules.ensures.2))

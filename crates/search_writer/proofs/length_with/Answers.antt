@@ -12,9 +12,6 @@ put_planted-behind-requires c =
     let given = c.requires in
     record { end_in_bounds = (omega arith, given.readable.0.head, given.readable.0.size, omega (arith, given.readable.0.entries, first_inside c.args.s.now c.args.n _ 16 given.readable.1)); total_value = given.total_value }
 
-pub overflow_add-result : goal.overflow_add-result
-overflow_add-result c = omega (arith, c.head_length.ensures.1, c.put_planted-behind.ensures.0)
-
 pub returns : goal.returns
 returns c =
     let s = c.args.s.now in

@@ -3,7 +3,7 @@ use mathlib.Core.Path.{◌≡◌}
 use mathlib.Core.Bool.{Bool}
 use mathlib.Core.List.{List}
 use lib.ListN.{take}
-use Prim.Native.Nat.{ℕ, ◌+◌, ◌^◌, ◌≤◌}
+use Prim.Native.Nat.{ℕ, ◌+◌, ◌-◌, ◌^◌, ◌≤◌}
 use Rattle.definitions.specs.Answer.{short_with, halved, turns_long, search_size}
 use Rattle.set_view.specs.Parts.{set_here}
 use Rattle.search_writer.proofs.long_entry.Given as goal
@@ -11,9 +11,6 @@ use Rattle.search_writer.proofs.long_entry.Given as goal
 abbrev pub short_by : List ℕ → ℕ → Bool
 short_by s n = short_with search_size (set_here s) (take n (set_here s).entries)
 
-abbrev pub invariant-loop-left : goal.invariant-loop-left
-invariant-loop-left l =
-    (l.width ≡ 2 ^ l.left) × (l.short + l.width ≤ 131072) × (halved (short_by l.s) l.left l.short ≡ turns_long search_size (set_here l.s))
-
-abbrev pub decreases-loop-left : goal.decreases-loop-left
-decreases-loop-left l = l.left
+abbrev pub invariant-loop : goal.invariant-loop
+invariant-loop l =
+    (l.width ≡ 2 ^ (17 - l.counter)) × (l.short + l.width ≤ 131072) × (halved (short_by l.s) (17 - l.counter) l.short ≡ turns_long search_size (set_here l.s))

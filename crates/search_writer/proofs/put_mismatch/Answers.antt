@@ -1,7 +1,8 @@
 -- `put_mismatch` meets its contract.
-use native.Mathlib.Omega.{arith}
-use Rattle.search_writer.proofs.Planting.{mismatch_makes}
+use Rattle.search_writer.proofs.Planting.{miss_grew, mismatch_makes}
 use Rattle.search_writer.proofs.put_mismatch.Goals as goal
 
 pub returns : goal.returns
-returns c = (omega (arith, c.near_return-spot.ensures), mismatch_makes c.args.z c.args.plan.d c.near_return-spot.ensures)
+returns c =
+    let spot = c.near_return-spot.ensures in
+    (miss_grew c.requires.0.hit spot.0 spot.1, mismatch_makes c.args.z c.args.plan.actions.mismatch spot.0)

@@ -15,12 +15,7 @@ put_bodies-requires c =
     let a = c.args in
     let given = c.requires in
     let b = planted_longer a.s.now a.n in
-    record { reach = (given.in_bounds.2, given.in_bounds.1); from_in_bounds = rw (c.u32_at-m.ensures, c.u32_at-d.ensures) (omega (arith, given.n_len_bound, c.bodies_length-total.ensures)) }
-
-pub put_planted-requires : goal.put_planted-requires
-put_planted-requires c =
-    let given = c.requires in
-    omega (arith, given.in_bounds, given.n_len_bound, c.bodies_length-total.ensures, c.put_bodies.auto.out)
+    record { reach = (given.in_bounds.2, given.in_bounds.1); from_in_bounds = rw (c.actions_here-actions.ensures) (omega (arith, given.n_len_bound, c.bodies_length-total.ensures)) }
 
 pub returns : goal.returns
 returns c =
@@ -28,6 +23,6 @@ returns c =
     let given = c.requires in
     let s = a.s.now in
     let b = planted_longer s a.n in
-    let o = rw (c.u32_at-m.ensures, c.u32_at-d.ensures) at c.put_bodies.ensures in
+    let o = rw (c.actions_here-actions.ensures) at c.put_bodies.ensures in
     let w = bodies_put a.out.now _ _ _ (bodies_here s a.n 16) (omega (arith, given.n_len_bound, c.bodies_length-total.ensures)) given.n_len_bound.1 o in
     (c.put_planted.ensures.1 a.out.now w).1.there (omega (arith, given.n_len_bound))

@@ -7,9 +7,3 @@ pub bodies_length-total-requires : goal.bodies_length-total-requires
 bodies_length-total-requires c =
     let given = c.requires in
     (omega (arith, given.0.entries, first_inside c.args.s.now c.args.n _ 16 given.1), given.0.size)
-
-pub length_with-requires : goal.length_with-requires
-length_with-requires c = record { readable = c.requires; total_value = c.bodies_length-total.ensures }
-
-pub returns : goal.returns
-returns c = c.length_with.ensures

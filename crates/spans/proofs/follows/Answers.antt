@@ -5,15 +5,9 @@ use Rattle.search_bodies.proofs.Bodies.{entry_room}
 use Rattle.set_view.proofs.Walk.{plain_is}
 use Rattle.spans.proofs.follows.Goals as goal
 
-pub u32_at-number-requires : goal.u32_at-number-requires
-u32_at-number-requires c =
+pub u32_at-requires : goal.u32_at-requires
+u32_at-requires c =
     let a = c.args in
     let s = a.s.now in
     let p = plain_is s a.left a.at (sym c.plain_here.ensures ∙ c.if-plain_here.true) in
     omega (arith, entry_room s a.left a.at _ p.0 refl c.requires.0)
-
-pub returns-then-plain_here : goal.returns-then-plain_here
-returns-then-plain_here c = rw (← c.plain_here.ensures, c.if-plain_here.true, ← c.u32_at-number.ensures)
-
-pub returns : goal.returns
-returns c = rw (← c.plain_here.ensures, c.if-plain_here.false)

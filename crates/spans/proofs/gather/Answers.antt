@@ -9,9 +9,6 @@ use Rattle.spans.proofs.gather.Goals as goal
 pub loop-last-init : goal.loop-last-init
 loop-last-init c = (gather_begin c.args.first _, refl, c.requires.place, omega arith)
 
-pub follows-requires : goal.follows-requires
-follows-requires c = (rw c.loop-last.invariant.1 c.requires.inside, c.requires.size)
-
 pub u32_at-last-requires : goal.u32_at-last-requires
 u32_at-last-requires c =
     let f = follows_is c.args.s.now c.loop-last.left c.loop-last.at c.loop-last.last (sym c.follows.ensures ∙ c.loop-last-test.true) in

@@ -17,8 +17,8 @@ returns-then-n-le-CHAIN_SPANS c =
     let a = c.args in
     rw (length-take-le a.n (spans_from a.s.now a.c) c.requires.1, lt-leb _ _ c.if-n-le1.false, le-leb _ _ c.if-n-le-CHAIN_SPANS.true) c.all_single.ensures
 
-pub returns : goal.returns
+pub returns-else-n-le-CHAIN_SPANS : goal.returns-else-n-le-CHAIN_SPANS
 unfolding few
-returns c =
+returns-else-n-le-CHAIN_SPANS c =
     let a = c.args in
     rw (length-take-le a.n (spans_from a.s.now a.c) c.requires.1, lt-leb _ _ c.if-n-le1.false, lt-leb _ _ c.if-n-le-CHAIN_SPANS.false)

@@ -10,8 +10,8 @@ u32_at-number-requires c =
     let a = c.args in
     omega (arith, entry_room a.s.now a.c.left a.c.at _ c.requires.1 refl c.requires.0.inside)
 
-pub overflow_add-at : goal.overflow_add-at
-overflow_add-at c =
+pub overflow_add-c : goal.overflow_add-c
+overflow_add-c c =
     let a = c.args in
     omega (arith, entry_room a.s.now a.c.left a.c.at _ c.requires.1 refl c.requires.0.inside, c.requires.0.size)
 
@@ -20,18 +20,12 @@ u32_at-rules-requires c =
     let a = c.args in
     omega (arith, entry_room a.s.now a.c.left a.c.at _ c.requires.1 refl c.requires.0.inside)
 
-pub pass-next-requires : goal.pass-next-requires
-pass-next-requires c = c.requires
-
-pub gather-requires : goal.gather-requires
-gather-requires c = c.pass-next.ensures.stands
-
 pub returns-then-rules-eq0 : goal.returns-then-rules-eq0
 returns-then-rules-eq0 c =
     let a = c.args in
     run_plain a.s.now a.c c.pass-next.result c.gather.result c.u32_at-number.result c.u32_at-number.ensures (sym c.u32_at-rules.ensures ∙ c.if-rules-eq0.true) c.pass-next.ensures c.gather.ensures
 
-pub returns : goal.returns
-returns c =
+pub returns-else-rules-eq0 : goal.returns-else-rules-eq0
+returns-else-rules-eq0 c =
     let a = c.args in
     run_ruled a.s.now a.c c.pass-next.result c.u32_at-number.result c.u32_at-number.ensures (λ e. c.if-rules-eq0.false (c.u32_at-rules.ensures ∙ e)) c.requires.0 c.pass-next.ensures

@@ -7,8 +7,8 @@ use Rattle.set_view.proofs.Walk.{behind_more, entry_inside, entry_past_lem}
 use Rattle.set_view.specs.Parts.{entry_past}
 use Rattle.spans.proofs.pass.Goals as goal
 
-pub overflow_add-at : goal.overflow_add-at
-overflow_add-at c =
+pub overflow_add-c : goal.overflow_add-c
+overflow_add-c c =
     let a = c.args in
     omega (arith, entry_room a.s.now a.c.left a.c.at _ c.requires.1 refl c.requires.0.inside, c.requires.0.size)
 
@@ -17,8 +17,8 @@ u32_at-rules-requires c =
     let a = c.args in
     omega (arith, entry_room a.s.now a.c.left a.c.at _ c.requires.1 refl c.requires.0.inside, c.requires.0.size)
 
-pub overflow_add-at-2 : goal.overflow_add-at-2
-overflow_add-at-2 c =
+pub overflow_add-c-2 : goal.overflow_add-c-2
+overflow_add-c-2 c =
     let a = c.args in
     omega (arith, entry_room a.s.now a.c.left a.c.at _ c.requires.1 refl c.requires.0.inside, c.requires.0.size)
 
