@@ -1,15 +1,15 @@
--- The part of the buffer that holds the keys, lent and come back; and bytes copied one by one. Assumes nothing.
+-- The part of the buffer that holds the keys, lent and come back; and bytes copied. Assumes nothing.
 use mathlib.Core.Path.{◌≡◌, ap, sym, ◌∙◌}
-use mathlib.Core.List.{List, [], ◌∷◌, ◌++◌}
-use Prim.Native.Nat.{ℕ, ◌+◌, ◌-◌, ◌*◌, ◌≤◌, ◌<◌}
+use mathlib.Core.List.{List, ◌++◌}
+use Prim.Native.Nat.{ℕ, ◌+◌, ◌-◌, ◌*◌, ◌≤◌}
 use native.Mathlib.Omega.{arith}
-use native.Mathlib.Numerals.{add-one}
-use lib.ListN.{length, take, drop, get_or, set, length-take, length-drop}
-use lib.Seq.{take_at, drop_at, take-suc, set_split, append_snoc, get_or-drop}
+use lib.ListN.{length, take, drop, length-take, length-drop}
+use lib.Seq.{take_at, drop_at}
+use Rattle.std.specs.List.{copy_within}
 use Rattle.definitions.specs.Word.{bytes_of, number_at}
 use Rattle.theorems.proofs.Words.{length_bytes}
 use Rattle.bpf.specs.Place.{place}
-use Rattle.bpf.proofs.Buffer.{place_next, length_place, drop_place}
+use Rattle.bpf.proofs.Buffer.{drop_place}
 use Rattle.sort.specs.Keys.{keys_in}
 use Rattle.sort.proofs.Keys.{length_keys}
 use Rattle.collect.specs.Raw.{keys_at, past_entry, extended}
@@ -43,21 +43,11 @@ module _ (s : List ℕ) (t n : ℕ) (room : 2 * t + 8 * n ≤ length s) where
 
 -- ---- copying
 
-one_put : (l : List ℕ) (i x : ℕ) → i < length l → set l i x ≡ place l i (x ∷ [])
+pub copied : (s : List ℕ) (from past to : ℕ) → past ≤ length s → copy_within s from past to ≡ place s to (take (past - from) (drop from s))
 unfolding place
-one_put l i x h = set_split l i x h ∙ rw (append_snoc, ← add-one)
-
-module _ (s₀ : List ℕ) (from to n : ℕ) (inside : from + n ≤ length s₀) (room : to + n ≤ from) where
-  pub copy_turn : (s : List ℕ) (i : ℕ) → i < n → s ≡ place s₀ to (take i (drop from s₀))
-      → set s (to + i) (get_or s (from + i) 0) ≡ place s₀ to (take (i + 1) (drop from s₀))
-  copy_turn s i h e =
-      let many : length (take i (drop from s₀)) ≡ i = simp (length-take, length-drop) (omega arith) in
-      let far : i < length (drop from s₀) = rw length-drop (omega arith) in
-      let long : length s ≡ length s₀ = ap length e ∙ length_place s₀ to (take i (drop from s₀)) (omega arith) in
-      let same : drop from s ≡ drop from s₀ = ap (λ (l : List ℕ). drop from l) e ∙ drop_place s₀ to from (take i (drop from s₀)) (omega arith) (omega arith) in
-      let byte : get_or s (from + i) 0 ≡ get_or (drop from s₀) i 0 = sym (get_or-drop from s i 0) ∙ ap (λ (l : List ℕ). get_or l i 0) same in
-      one_put s (to + i) (get_or s (from + i) 0) (omega arith)
-      ∙ rw (byte, e, place_next s₀ to (to + i) (take i (drop from s₀)) (get_or (drop from s₀) i 0 ∷ []) (omega arith) (omega arith), add-one, take-suc (drop from s₀) i 0 far)
+copied s from past to h =
+    let many : length (take (past - from) (drop from s)) ≡ past - from = simp (length-take, length-drop) (omega arith) in
+    rw many
 
 -- a count raised in front of bytes leaves them as they were
 pub extend_done : (s mid out : List ℕ) (from entry end past a b : ℕ) → entry ≤ from → from + 8 ≤ length s → past ≡ past_entry s from

@@ -2,22 +2,21 @@
 // is copied behind the one before it. All in one buffer that the caller lends (specs/Raw.antt says which part holds what).
 #![tactic(auto)]
 
-ghost use Rattle.std.specs.Prelude.{◌≡◌, map, ◌+◌, ◌-◌, ◌*◌, ◌%◌, ◌≤◌, ◌<◌, length, take, drop, get_or, set};
-ghost use Rattle.bpf.specs.Place.{place};
+ghost use Rattle.std.specs.Prelude.{◌≡◌, map, ◌+◌, ◌-◌, ◌*◌, ◌%◌, ◌≤◌, ◌<◌, length, take, get_or, set};
 ghost use Rattle.sort.specs.Sorted.{sorted};
 ghost use Rattle.collect.specs.Raw.{Raw, Collects, keys_at, past_entry, Listed, Reaches, begun, extended, Added, Keyed, FirstWritten, Grouped};
 
 use bpf::{u32_at, write_u32};
 
 // The last entry that was written, which further rules may follow, and how many entries there are.
-#[derive(Clone, Copy)]
+#[derive(Clone, Copy, Debug, PartialEq, Eq)]
 pub struct Last {
     pub entry: usize,
     pub end: usize,
     pub count: usize,
 }
 
-#[derive(Clone, Copy)]
+#[derive(Clone, Copy, Debug, PartialEq, Eq)]
 pub struct Collection {
     pub end: usize,
     pub count: usize,
@@ -25,30 +24,24 @@ pub struct Collection {
 
 // The place of the line whose key is the i-th.
 fn place_at(s: &[u8], t: usize, n: usize, i: usize) -> usize
-    requires { (i < n) × (2 * t + 8 * n ≤ length s.now) × (t ≤ 1048576) × (n ≤ 1048576) }
+    requires { (i < n) × (2 * t + 8 * n ≤ length s.now) }
     ensures { result ≡ get_or (keys_at s.now t n) i 0 % 4294967296 }
 {
-    let a = 2 * t;
-    let e = a + 8 * n;
-    (sort::key_at(&s[a..e], i) % 4294967296) as usize
+    (sort::key_at(&s[2 * t..2 * t + 8 * n], i) % 4294967296) as usize
 }
 
 fn put_key(s: &mut [u8], t: usize, n: usize, i: usize, k: u64)
-    requires { (i < n) × (2 * t + 8 * n ≤ length s.old) × (t ≤ 1048576) × (n ≤ 1048576) }
+    requires { (i < n) × (2 * t + 8 * n ≤ length s.old) }
     ensures { (keys_at s.new t n ≡ set (keys_at s.old t n) i k) × (take (2 * t) s.new ≡ take (2 * t) s.old) }
 {
-    let a = 2 * t;
-    let e = a + 8 * n;
-    sort::put_key(&mut s[a..e], i, k);
+    sort::put_key(&mut s[2 * t..2 * t + 8 * n], i, k);
 }
 
 fn sort_keys(s: &mut [u8], t: usize, n: usize)
-    requires { (2 * t + 8 * n ≤ length s.old) × (t ≤ 1048576) × (n ≤ 1048576) }
+    requires { 2 * t + 8 * n ≤ length s.old }
     ensures { (keys_at s.new t n ≡ sorted (keys_at s.old t n)) × (take (2 * t) s.new ≡ take (2 * t) s.old) }
 {
-    let a = 2 * t;
-    let e = a + 8 * n;
-    sort::sort(&mut s[a..e]);
+    sort::sort(&mut s[2 * t..2 * t + 8 * n]);
 }
 
 // Where the entry of one line ends.
@@ -57,9 +50,10 @@ fn past_entry(s: &[u8], at: usize) -> usize
     ensures { result ≡ past_entry s.now at }
 {
     if u32_at(s, at + 4) == 0 {
-        return at + 8;
+        at + 8
+    } else {
+        at + 12 + 24 * u32_at(s, at + 8) as usize
     }
-    at + 12 + 24 * (u32_at(s, at + 8) as usize)
 }
 
 fn list_keys(s: &mut [u8], t: usize, n: usize)
@@ -67,25 +61,10 @@ fn list_keys(s: &mut [u8], t: usize, n: usize)
     ensures { (h : Raw s.old t n 0) → Listed h.entries s.old s.new t n }
 {
     let mut p = t;
-    let mut i: usize = 0;
-    while i < n {
-        let number = u32_at(s, p) as u64;
+    for i in 0..n {
+        let number = u64::from(u32_at(s, p));
         put_key(s, t, n, i, number * 4294967296 + p as u64);
         p = past_entry(s, p);
-        i += 1;
-    }
-}
-
-// Copies bytes to a place that lies wholly in front of them.
-fn copy(s: &mut [u8], from: usize, past: usize, to: usize)
-    requires { (from ≤ past) × (past ≤ length s.old) × (to + (past - from) ≤ from) }
-    ensures { s.new ≡ place s.old to (take (past - from) (drop from s.old)) }
-{
-    let n = past - from;
-    let mut i: usize = 0;
-    while i < n {
-        s[to + i] = s[from + i];
-        i += 1;
     }
 }
 
@@ -95,7 +74,7 @@ fn begin(s: &mut [u8], from: usize, end: usize) -> usize
     ensures { (s.new ≡ begun s.old from end) × (result ≡ end + (past_entry s.old from - from)) }
 {
     let past = past_entry(s, from);
-    copy(s, from, past, end);
+    s.copy_within(from..past, end);
     end + (past - from)
 }
 
@@ -105,9 +84,9 @@ fn extend(s: &mut [u8], from: usize, entry: usize, end: usize) -> usize
     ensures { (s.new ≡ extended s.old from entry end) × (result ≡ end + (past_entry s.old from - (from + 8))) }
 {
     let past = past_entry(s, from);
-    let count = u32_at(s, entry + 4) as u64 + u32_at(s, from + 4) as u64;
+    let count = u64::from(u32_at(s, entry + 4)) + u64::from(u32_at(s, from + 4));
     write_u32(s, entry + 4, count);
-    copy(s, from + 8, past, end);
+    s.copy_within(from + 8..past, end);
     end + (past - (from + 8))
 }
 
@@ -116,21 +95,16 @@ fn add(s: &mut [u8], from: usize, w: Last) -> Last
     requires { Reaches s.old from w.end × (w.entry + 8 ≤ w.end) × (w.count ≤ 4194304) }
     ensures { Added s.old from w s.new result }
 {
-    let entry = w.entry;
-    let end = w.end;
-    if u32_at(s, from) == u32_at(s, entry) {
-        let longer = extend(s, from, entry, end);
-        return Last {
-            entry: entry,
-            end: longer,
-            count: w.count,
-        };
-    }
-    let next = begin(s, from, end);
-    Last {
-        entry: end,
-        end: next,
-        count: w.count + 1,
+    if u32_at(s, from) == u32_at(s, w.entry) {
+        let end = extend(s, from, w.entry, w.end);
+        Last { end, ..w }
+    } else {
+        let end = begin(s, from, w.end);
+        Last {
+            entry: w.end,
+            end,
+            count: w.count + 1,
+        }
     }
 }
 
@@ -140,11 +114,9 @@ fn write_others(s: &mut [u8], t: usize, n: usize, first: Last) -> Collection
     ensures { (h : FirstWritten s.old t n first) → Grouped (map h.keyed.line (keys_at h.before t n)) h.before s.new h.at result.end result.count }
 {
     let mut w = first;
-    let mut i: usize = 1;
-    while i < n {
+    for i in 1..n {
         let from = place_at(s, t, n, i);
         w = add(s, from, w);
-        i += 1;
     }
     Collection {
         end: w.end,
@@ -158,10 +130,10 @@ fn write_groups(s: &mut [u8], t: usize, n: usize, at: usize) -> Collection
     ensures { (h : Keyed s.old t n at) → Grouped (map h.line (keys_at s.old t n)) s.old s.new at result.end result.count }
 {
     let from = place_at(s, t, n, 0);
-    let next = begin(s, from, at);
+    let end = begin(s, from, at);
     let first = Last {
         entry: at,
-        end: next,
+        end,
         count: 1,
     };
     write_others(s, t, n, first)

@@ -14,9 +14,14 @@ use Rattle.definitions.specs.FormReader.{given_twice, has_typed, typed, Conditio
 use Rattle.json_theorems.specs.Turns.{open_there, field_there, colon_there, more_there}
 use Rattle.json_theorems.proofs.Turns.{value_turn, field_turn_lem, object_begins}
 use Rattle.json_theorems.proofs.Tests.{false_not_true}
+use Rattle.std.specs.Prelude.{None, Result, Ok, Err, IsErrAnd}
+use Rattle.json_scan.specs.Telling.{code_of}
+use Rattle.json_scan.specs.declared.Misread.{Misread}
+use Rattle.json_scan.specs.declared.Read.{Read}
 use Rattle.json_condition.specs.declared.Gathered.{Gathered}
-use Rattle.json_condition.specs.Gathering.{Parts, Kept, Further, Ended, Left, further, ended, broken, condition_object, condition_turns}
-use Rattle.json_condition.proofs.Reading.{Faulty}
+use Rattle.json_condition.specs.declared.Turn.{Turn}
+use Rattle.json_condition.specs.Gathering.{Parts, Kept, Further, Ended, Onward, Left, further, ended, condition_object, condition_turns}
+use Rattle.json_condition.proofs.Reading.{Faulty, tell_fault}
 use Rattle.json_condition.proofs.OneKey.{Suffix, blanks_suffix, blanks_on, front}
 
 -- ---- places
@@ -60,11 +65,28 @@ bracket_before bracket text a b p h e = go (eqb (first m) 0x2c) (eqb (first m) b
             whole s y = let l = ap length (sym s.same ∙ y) in omega (arith, s.inside, length-drop a text, length-drop s.count (drop a text))
     go false false t f = absurd (let z : ◌≡◌ {A = ℕ} 0 1 = cc in omega arith)
 
--- ---- what the code has where it stops
+-- ---- what the code has where it stops, and where it begins
 
-pub left_broken : {slots : List Slot} {text : List ℕ} {from code at : ℕ} {result : Got Parts} {r : Gathered} → Faulty text result code at
-    → (r.code ≡ code) × (r.at ≡ at) × (r.more ≡ false) × Kept [] r → Left slots text from result r
-left_broken f e = broken e.2 (record { faulty = rw e.0 f.fault; inside = rw e.1 f.inside; same = rw (e.0, e.1) f.same })
+pub left_handed : (slots : List Slot) {text : List ℕ} (from : ℕ) {result : Got Parts} (r : Result (Read Turn) Misread) (e : Misread)
+    → IsErrAnd r (λ y. y ≡ e) → Faulty text result (code_of e.why) e.at → Left slots text from result r
+left_handed slots from (Ok x) e i f = absurd i
+left_handed slots from (Err y) e i f = rw i (tell_fault f)
+
+-- nothing was given yet
+pub kept_nothing : (g : Gathered) → (g.index ≡ None) × ((g.width ≡ None) × ((g.comparison ≡ None) × ((g.value ≡ None) × (g.commented ≡ false)))) → Kept [] g
+kept_nothing g h = record {
+  index = h.0;
+  width = h.1.0;
+  comparison = h.1.1.0;
+  value = h.1.1.1.0;
+  comment = refl;
+  indexed = rw h.0;
+  sized = rw h.1.0;
+  compared = rw h.1.1.0;
+  valued = rw h.1.1.1.0;
+  commented = h.1.1.1.1;
+  other = λ f l. refl;
+}
 
 -- ---- the object begins
 
@@ -80,36 +102,35 @@ module _ (slots : List Slot) (l : List ℕ) where
     object_turns t = object_begins condition_keys (condition_reads (judges_of slots)) l ∙ rw (e, f, t)
 
 -- it is empty
-pub begins_ended : (slots : List Slot) (text : List ℕ) (at a start z : ℕ) (r : Gathered) → open_there 0x7b (drop at text) ≡ got z (drop a text) → at < a → a ≤ length text → start ≤ length text
-    → drop start text ≡ blanks (drop a text) → eqb (first (drop start text)) 0x7d ≡ true → (r.code ≡ 0) × (r.at ≡ start + 1) × (r.more ≡ false) × Kept [] r
-    → Left slots text at (condition_object slots (drop at text)) r
-begins_ended slots text at a start z r e on i j f t h =
+pub begins_ended : (slots : List Slot) (text : List ℕ) (at a start z : ℕ) (g : Gathered) → Kept [] g → open_there 0x7b (drop at text) ≡ got z (drop a text) → at < a → a ≤ length text → start ≤ length text
+    → drop start text ≡ blanks (drop a text) → eqb (first (drop start text)) 0x7d ≡ true
+    → Onward slots text at (condition_object slots (drop at text)) (record { at = start + 1; value = record { gathered = g; more = false } })
+begins_ended slots text at a start z g k e on i j f t =
     let s = stands_inside text start 0x7d (omega arith) t in
     let o = blanks_on text a start i j f in
     let w : (start + 1) - 1 ≡ start = omega arith in
-    ended h.2 (record {
-      fine = h.0;
+    ended refl (record {
       parts = [];
-      kept = h.3;
-      on = rw h.1 (omega arith);
-      inside = rw h.1 (omega arith);
-      brace = rw (h.1, w, ← drop-drop 1 start text) (front (drop start text) 0x7d (omega arith) t);
-      same = rw (h.1, ← drop-drop 1 start text) (object_empty slots (drop at text) z (drop a text) (drop start text) e (sym f) t);
+      kept = k;
+      on = omega arith;
+      inside = omega arith;
+      brace = rw (w, ← drop-drop 1 start text) (front (drop start text) 0x7d (omega arith) t);
+      same = rw (← drop-drop 1 start text) (object_empty slots (drop at text) z (drop a text) (drop start text) e (sym f) t);
     })
 
 -- it has a key
-pub begins_further : (slots : List Slot) (text : List ℕ) (at a start z : ℕ) (r : Gathered) → open_there 0x7b (drop at text) ≡ got z (drop a text) → at < a → a ≤ length text
-    → drop start text ≡ blanks (drop a text) → eqb (first (drop start text)) 0x7d ≡ false → (r.code ≡ 0) × (r.at ≡ a) × (r.more ≡ true) × Kept [] r
-    → Left slots text at (condition_object slots (drop at text)) r
-begins_further slots text at a start z r e on i f t h =
-    further h.2 (record {
+pub begins_further : (slots : List Slot) (text : List ℕ) (at a start z : ℕ) (g : Gathered) → Kept [] g → open_there 0x7b (drop at text) ≡ got z (drop a text) → at < a → a ≤ length text
+    → drop start text ≡ blanks (drop a text) → eqb (first (drop start text)) 0x7d ≡ false
+    → Onward slots text at (condition_object slots (drop at text)) (record { at = a; value = record { gathered = g; more = true } })
+begins_further slots text at a start z g k e on i f t =
+    further refl (record {
       parts = [];
       turns = length (drop a text);
-      kept = h.3;
-      on = rw h.1 on;
-      inside = rw h.1 i;
-      enough = rw h.1 (omega (arith, length-drop a text));
-      same = rw h.1 (object_turns slots (drop at text) z (drop a text) (drop start text) e (sym f) t);
+      kept = k;
+      on = on;
+      inside = i;
+      enough = omega (arith, length-drop a text);
+      same = object_turns slots (drop at text) z (drop a text) (drop start text) e (sym f) t;
     })
 
 -- ---- a turn
@@ -156,60 +177,29 @@ module _ (slots : List Slot) where
             turn_whole more next q = turn ∙ rw (e, t, c, p, q)
 
 -- what a whole turn leaves
-pub turn_left : (slots : List Slot) (text : List ℕ) (from n behind at : ℕ) (ts : Parts) (result : Got Parts) (r : Gathered) (more : Bool)
+pub turn_left : (slots : List Slot) (text : List ℕ) (from n behind at : ℕ) (ts : Parts) (result : Got Parts) (g : Gathered) (more : Bool)
     → result ≡ cond more (condition_turns slots (n - 1) ts (drop at text)) (got ts (drop at text)) → more_there 0x7d (drop behind text) ≡ got more (drop at text)
-    → length text ≤ from + n → from < at → at ≤ length text → (r.code ≡ 0) × (r.at ≡ at) × (r.more ≡ more) → Kept ts r → Left slots text from result r
-turn_left slots text from n behind at ts result r true e m l o i h k =
-    further h.2 (record {
-      parts = ts;
-      turns = n - 1;
-      kept = k;
-      on = rw h.1 o;
-      inside = rw h.1 i;
-      enough = rw h.1 (omega arith);
-      same = rw h.1 e;
-    })
-turn_left slots text from n behind at ts result r false e m l o i h k =
-    ended h.2 (record {
-      fine = h.0;
-      parts = ts;
-      kept = k;
-      on = rw h.1 o;
-      inside = rw h.1 i;
-      brace = rw h.1 (bracket_before 0x7d text behind at (omega arith) i m);
-      same = rw h.1 e;
-    })
+    → length text ≤ from + n → from < at → at ≤ length text → Kept ts g → Onward slots text from result (record { at = at; value = record { gathered = g; more = more } })
+turn_left slots text from n behind at ts result g true e m l o i k =
+    further refl (record { parts = ts; turns = n - 1; kept = k; on = o; inside = i; enough = omega arith; same = e })
+turn_left slots text from n behind at ts result g false e m l o i k =
+    ended refl (record { parts = ts; kept = k; on = o; inside = i; brace = bracket_before 0x7d text behind at (omega arith) i m; same = e })
 
 -- ---- the loop
 
-module _ {slots : List Slot} {text : List ℕ} {from : ℕ} {result : Got Parts} {g : Gathered} where
-  pub goes_on : Left slots text from result g → g.more ≡ true → Further slots text from result g
-  goes_on (further m f) t = f
-  goes_on (ended m f) t = absurd (false_not_true (sym m ∙ t))
-  goes_on (broken m f) t = absurd (false_not_true (sym m ∙ t))
+module _ {slots : List Slot} {text : List ℕ} {from : ℕ} {result : Got Parts} where
+  pub goes_on : {t : Read Turn} → Onward slots text from result t → t.value.more ≡ true → Further slots text from result t.at t.value.gathered
+  goes_on (further m f) e = f
+  goes_on (ended m f) e = absurd (false_not_true (sym m ∙ e))
 
-  pub is_over : Left slots text from result g → g.more ≡ false → g.code ≡ 0 → Ended text from result g
-  is_over (further m f) t z = absurd (false_not_true (sym t ∙ m))
-  is_over (ended m f) t z = f
-  is_over (broken m f) t z = absurd (let p = f.faulty in omega arith)
-
-  pub is_broken : Left slots text from result g → g.more ≡ false → (g.code ≡ 0 → ⊥) → Faulty text result g.code g.at
-  is_broken (further m f) t z = absurd (false_not_true (sym t ∙ m))
-  is_broken (ended m f) t z = absurd (z f.fine)
-  is_broken (broken m f) t z = record { same = f.same; fault = f.faulty; inside = f.inside }
-
-  pub left_again : {r : Gathered} → (f : Further slots text from result g) → Left slots text g.at (condition_turns slots f.turns f.parts (drop g.at text)) r → Left slots text from result r
-  left_again f (further m t) =
-      further m (record { parts = t.parts; turns = t.turns; kept = t.kept; on = omega (arith, f.on, t.on); inside = t.inside; enough = t.enough; same = f.same ∙ t.same })
-  left_again f (ended m t) =
-      ended m (record { fine = t.fine; parts = t.parts; kept = t.kept; on = omega (arith, f.on, t.on); inside = t.inside; brace = t.brace; same = f.same ∙ t.same })
-  left_again f (broken m t) = broken m (record { faulty = t.faulty; inside = t.inside; same = f.same ∙ t.same })
+  pub is_over : {t : Read Turn} → Onward slots text from result t → t.value.more ≡ false → Ended text from result t.at t.value.gathered
+  is_over (further m f) e = absurd (false_not_true (sym e ∙ m))
+  is_over (ended m f) e = f
 
 -- how much is to come
-abbrev pub to_come : List ℕ → Gathered → ℕ
-to_come text g = cond g.more (suc (length text - g.at)) 0
+abbrev pub to_come : List ℕ → Read Turn → ℕ
+to_come text t = cond t.value.more (suc (length text - t.at)) 0
 
-pub comes_less : {slots : List Slot} {text : List ℕ} {result : Got Parts} {r : Gathered} (g : Gathered) → Left slots text g.at result r → g.more ≡ true → to_come text r < to_come text g
-comes_less g (further m f) t = rw (m, t) (omega (arith, f.on, f.inside))
-comes_less g (ended m f) t = rw (m, t) (omega arith)
-comes_less g (broken m f) t = rw (m, t) (omega arith)
+pub comes_less : {slots : List Slot} {text : List ℕ} {result : Got Parts} {u : Read Turn} (t : Read Turn) → Onward slots text t.at result u → t.value.more ≡ true → to_come text u < to_come text t
+comes_less t (further m f) e = rw (m, e) (omega (arith, f.on, f.inside))
+comes_less t (ended m f) e = rw (m, e) (omega arith)

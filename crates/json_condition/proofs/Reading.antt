@@ -4,20 +4,21 @@ use mathlib.Core.Bool.{true, false}
 use mathlib.Core.List.{List}
 use mathlib.Core.Option.{Option, none, some}
 use Prim.Native.Nat.{ℕ, ◌+◌, ◌-◌, ◌%◌, ◌^◌, ◌≤◌, ◌<◌}
-use native.Mathlib.Nat.{add-zero}
-use native.Mathlib.Omega.{arith}
 use lib.Dec.{eqb, leb}
-use lib.ListN.{length, drop, get_or, drop_of_length-le}
-use lib.Seq.{get_or-drop}
-use borrow.Author.Tests.{le-leb, lt-leb, ne_eqb}
+use lib.ListN.{length, drop}
+use borrow.Author.Tests.{le-leb, lt-leb}
 use Rattle.definitions.specs.declared.Operator.TheVariants.{MaskedEq}
 use Rattle.definitions.specs.Format.{then, check}
 use Rattle.definitions.specs.Json.{quote, ascii}
 use Rattle.definitions.specs.JsonForm.{same, word_of, action_words, numbered_words, operator_words}
 use Rattle.definitions.specs.JsonReader.{Got, got, stop, follow, first}
 use Rattle.definitions.specs.FormReader.{not_of_form, wrong_index, judged, asked, put_in, word_there, one_there, string_there, either_there, natural_there, action_there, operator_there}
+use Rattle.std.specs.Prelude.{Result, Ok, Err, IsErrAnd}
 use Rattle.json_scan.specs.Scan.{Either, Tells}
-use Rattle.json_scan.proofs.Telling.{came}
+use Rattle.json_scan.specs.Telling.{code_of, code_in, place_in}
+use Rattle.json_scan.specs.declared.Misread.{Misread}
+use Rattle.json_scan.specs.declared.Read.{Read as Read_of}
+use Rattle.json_scan.proofs.Telling.{came, refused}
 
 pub record Read {A : Type 0} (text : List ℕ) (from : ℕ) (Is : A → Type 0) (g : Got A) (at : ℕ) : Type 0 where
   pub part : A
@@ -50,19 +51,18 @@ module _ {A : Type 0} {text : List ℕ} {from code at : ℕ} {Is : A → Type 0}
   pub tell_fault : Faulty text g code at → Tells text from Is g code at
   tell_fault f = record { tells = rw f.same (record { told = refl; some = f.fault; place = record { inside = f.inside; behind = refl } }) }
 
--- another reader that stops where this one does
-pub fault_of : {A B : Type 0} {text : List ℕ} {code at : ℕ} {g : Got A} {h : Got B} → Faulty text g code at → (g ≡ stop code (drop at text) → h ≡ stop code (drop at text)) → Faulty text h code at
-fault_of f law = record { same = law f.same; fault = f.fault; inside = f.inside }
+-- another reader stops where this one does
+pub stopped : {A B : Type 0} {text : List ℕ} {from : ℕ} {Is : A → Type 0} {g : Got A} {h : Got B} (e : Misread)
+    → Tells text from Is g (code_of e.why) e.at → (g ≡ stop (code_of e.why) (drop e.at text) → h ≡ stop (code_of e.why) (drop e.at text)) → Faulty text h (code_of e.why) e.at
+stopped e t law = let f = faulty t (refused e.why) in record { same = law f.same; fault = f.fault; inside = f.inside }
+
+-- a fault is handed on by `?`
+pub handed : {A V : Type 0} {text : List ℕ} {from : ℕ} {Is : A → Type 0} {g : Got A} (r : Result (Read_of V) Misread) (e : Misread)
+    → IsErrAnd r (λ y. y ≡ e) → Faulty text g (code_of e.why) e.at → Tells text from Is g (code_in r) (place_in r)
+handed (Ok x) e i f = absurd i
+handed (Err y) e i f = rw i (tell_fault f)
 
 -- ---- a value that was read and made into something else
-
-pub put : {A B : Type 0} {text : List ℕ} {from code at : ℕ} {Is : A → Type 0} {Is' : B → Type 0} {g : Got A} (add : A → B) → ((a : A) → Is a → Is' (add a))
-    → Tells text from Is g code at → Tells text from Is' (follow g (λ a rest. got (add a) rest)) code at
-put {A} {B} {text} {from} {code} {at} {Is} {Is'} {g} add f t = record { tells = go g t.tells }
-  where
-    go : (h : Got A) → Either text from Is h code at → Either text from Is' (follow h (λ a rest. got (add a) rest)) code at
-    go (got a rest) s = record { fine = s.fine; on = s.on; place = s.place; value = f a s.value }
-    go (stop k rest) s = s
 
 pub got_number : {g : Got ℕ} {m n : ℕ} {rest : List ℕ} → g ≡ got n rest → m ≡ n → g ≡ got m rest
 got_number e f = rw f e
@@ -94,25 +94,10 @@ module _ {A : Type 0} (g : List ℕ → Option A) (l : List ℕ) where
   unfolding word_there judged
   word_known s rest a e n = rw (e, n)
 
--- ---- what is told by other numbers that are the same
-
-module _ {A : Type 0} {text : List ℕ} {from : ℕ} {Is : A → Type 0} {g : Got A} {code at code' at' : ℕ} where
-  pub told : Faulty text g code at → (code' ≡ code) × (at' ≡ at) → Tells text from Is g code' at'
-  told f e = rw (e.0, e.1) (tell_fault f)
-
-  pub retold : Tells text from Is g code at → (code' ≡ code) × (at' ≡ at) → Tells text from Is g code' at'
-  retold t e = rw (e.0, e.1) t
+-- ---- what is told by a reader that is the same
 
 pub tell_same : {A : Type 0} {text : List ℕ} {from : ℕ} {Is : A → Type 0} {g h : Got A} {code at : ℕ} → g ≡ h → Tells text from Is h code at → Tells text from Is g code at
 tell_same e t = rw e t
-
--- ---- a byte at a place
-
-pub first_at : (text : List ℕ) (at : ℕ) → first (drop at text) ≡ get_or text at 0
-first_at text at = rw (get_or-drop at text 0 0, add-zero)
-
-pub stands_none : (text : List ℕ) (at byte : ℕ) → length text ≤ at → 0 < byte → false ≡ eqb (first (drop at text)) byte
-stands_none text at byte h p = rw (drop_of_length-le text h) (sym (ne_eqb 0 byte (λ e. omega arith)))
 
 -- ---- an index
 

@@ -1,18 +1,31 @@
--- A condition that was read from a text, by the numbers that the byte form has for it. Needs no belief.
-use Rattle.std.specs.Prelude.{◌≡◌}
-use Rattle.definitions.specs.declared.Condition.{Condition}
-use Rattle.definitions.specs.Format.{width_number, operator_number}
+-- The parts of a condition, as the code has them. Needs no belief.
+use Rattle.std.specs.Prelude.{ℕ, ◌≡◌}
 use Rattle.definitions.specs.JsonForm.{Compared}
-use Rattle.json_condition.specs.declared.ConditionRead.{ConditionRead}
+use Rattle.definitions.specs.FormReader.{ConditionPart, the_index, the_width, the_operator, the_value, the_comment}
+use Rattle.json_condition.specs.declared.Comparison.{Comparison}
+use Rattle.json_condition.specs.declared.Part.{Part}
+use Rattle.json_condition.specs.declared.Part.TheVariants.{Index, Width, Compares, Value, Comment}
 
-pub record Spells (r : ConditionRead) (q : Condition) : Type 0 where
-  pub index : r.index ≡ q.index
-  pub width : r.width ≡ width_number q.width
-  pub operator : r.operator ≡ operator_number q.operator
-  pub value : r.value ≡ q.value
-  pub mask : r.mask ≡ q.mask
+abbrev pub comparison_of : Compared → Comparison
+comparison_of o = record { operator = o.operator; mask = o.mask }
 
--- an operator, with its mask
-pub record Compares (r : ConditionRead) (o : Compared) : Type 0 where
-  pub operator : r.operator ≡ operator_number o.operator
-  pub mask : r.mask ≡ o.mask
+-- what a field gives: a comment is only skipped
+abbrev pub part_of : ConditionPart → Part
+part_of (the_index i) = Index i
+part_of (the_width w) = Width w
+part_of (the_operator o) = Compares (comparison_of o)
+part_of (the_value x) = Value x
+part_of (the_comment c) = Comment
+
+-- the field that gives it
+abbrev pub field_of_part : ConditionPart → ℕ
+field_of_part (the_index i) = 0
+field_of_part (the_width w) = 1
+field_of_part (the_operator o) = 2
+field_of_part (the_value x) = 3
+field_of_part (the_comment c) = 4
+
+-- what was read of a field
+pub record Holds (part : Part) (field : ℕ) (p : ConditionPart) : Type 0 where
+  pub is : part ≡ part_of p
+  pub own : field ≡ field_of_part p

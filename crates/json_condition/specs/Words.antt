@@ -1,6 +1,6 @@
 -- Words that stand for numbers, and the key of an object that has one. Needs no belief.
 use Rattle.std.specs.Prelude.{ℕ, Bool, true, false, cond, List, eqb}
-use Rattle.std.proofs.Math.Option.{Option, none, some}
+use Rattle.std.proofs.Math.Option.{Option, some}
 use Rattle.definitions.specs.Json.{ascii}
 use Rattle.definitions.specs.JsonForm.{same, word_of, numbered_words}
 use Rattle.definitions.specs.Format.{check}
@@ -8,11 +8,6 @@ use Rattle.definitions.specs.JsonReader.{Got, got, stop, follow, first, blanks}
 use Rattle.definitions.specs.FormReader.{not_of_form, given_twice, or_stop}
 use Rattle.json_theorems.specs.Turns.{open_there, colon_there, more_there}
 use Rattle.json_theorems.specs.Turns.{key_string}
-
--- the number of what a word means; `other` if it means nothing
-abbrev pub number_or : {A : Type 0} → ℕ → (A → ℕ) → Option A → ℕ
-number_or other f none = other
-number_or other f (some a) = f a
 
 -- what the only key of an object may be: masked_eq, or errno and trace
 abbrev pub key_known : Bool → List ℕ → Option ℕ

@@ -1,614 +1,521 @@
 // Actions, and conditions on arguments, read from a text. Each function reads one part from a place on, and hands on the first fault.
 #![tactic(auto)]
 
-ghost use Rattle.std.specs.Prelude.{◌≡◌, true, false, cond, ◌&&◌, List, [], ◌∷◌, ℕ, ◌+◌, ◌-◌, ◌%◌, ◌^◌, ◌≤◌, ◌<◌, eqb, leb, length, drop};
+ghost use Rattle.std.specs.Prelude.{◌≡◌, List, ◌∷◌, ℕ, ◌+◌, ◌-◌, ◌%◌, ◌^◌, ◌≤◌, ◌<◌, eqb, leb, length, drop};
 ghost use Rattle.std.proofs.Math.Option.{some};
 ghost use Rattle.definitions.specs.declared.Operator.TheVariants.{MaskedEq};
-ghost use Rattle.definitions.specs.Format.{then, check, width_number, operator_number};
+ghost use Rattle.definitions.specs.Answer.{fits_width};
+ghost use Rattle.definitions.specs.Format.{then, check};
 ghost use Rattle.definitions.specs.Json.{ascii};
 ghost use Rattle.definitions.specs.JsonForm.{same, word_of, action_words, width_words, operator_words, numbered_words};
 ghost use Rattle.definitions.specs.CallNames.{Slot};
 ghost use Rattle.definitions.specs.JsonReader.{first};
-ghost use Rattle.definitions.specs.FormReader.{judged, asked, wrong_index, natural_there, word_there, one_there, put_in, typed, has_typed, ConditionPart, action_there, operator_there, condition_reads, condition_there, judges_of};
-ghost use Rattle.json_scan.specs.Scan.{Tells};
+ghost use Rattle.definitions.specs.FormReader.{judged, asked, wrong_index, natural_there, word_there, one_there, put_in, typed, has_typed, ConditionPart, the_index, the_width, action_there, operator_there, condition_reads, condition_there, judges_of};
+ghost use Rattle.json_scan.specs.Scan.{option_of};
+ghost use Rattle.json_scan.specs.Telling.{Reads};
 ghost use Rattle.json_parts.specs.Words.{Packs};
-ghost use Rattle.json_condition.specs.Conditions.{Spells, Compares};
-ghost use Rattle.json_condition.specs.Words.{number_or, key_known, key_meant, one_begins, one_ends};
-ghost use Rattle.json_condition.specs.Gathering.{Parts, Holds, Kept, Left, condition_object, condition_turns};
+ghost use Rattle.json_condition.specs.Words.{key_known, key_meant, one_begins, one_ends};
+ghost use Rattle.json_condition.specs.Conditions.{comparison_of, part_of, Holds};
+ghost use Rattle.json_condition.specs.Gathering.{Parts, Kept, Left, Ended, condition_object, condition_turns};
 
-use json_parts::{Step, Word, is_word};
-use json_scan::{both, either};
+use definitions::{Condition, Operator, Width};
+use json_parts::{Object, Word, is_word};
+use json_scan::{Misread, Read, Reading, Refusal};
 
-// A condition, or the fault and its place.
-#[derive(Clone, Copy)]
-pub struct ConditionRead {
-    pub code: u32,
-    pub at: usize,
-    pub index: u8,
-    pub width: u8,
-    pub operator: u8,
-    pub value: u64,
-    pub mask: u64,
+// What errno stands for, before its number is added.
+const ERRNO: u64 = 0x00050000;
+
+// What trace stands for, before its number is added.
+const TRACE: u64 = 0x7ff00000;
+
+// The largest number of 32 bits.
+const LARGEST_DWORD: u64 = u32::MAX as u64;
+
+// An operator, and the mask that it looks through: 0 where it has none.
+#[derive(Clone, Copy, Debug, PartialEq, Eq)]
+struct Comparison {
+    operator: Operator,
+    mask: u64,
 }
 
-// What a condition's object has given up to a place, and whether more is to come; or the fault and its place.
-#[derive(Clone, Copy)]
-pub struct Gathered {
-    pub code: u32,
-    pub at: usize,
-    pub more: bool,
-    pub indexed: bool,
-    pub sized: bool,
-    pub compared: bool,
-    pub valued: bool,
-    pub remarked: bool,
-    pub index: u8,
-    pub width: u8,
-    pub operator: u8,
-    pub value: u64,
-    pub mask: u64,
+// What a field of a condition's object gives.
+#[derive(Clone, Copy, Debug, PartialEq, Eq)]
+enum Part {
+    Index(u8),
+    Width(Width),
+    Compares(Comparison),
+    Value(u64),
+    Comment,
 }
 
-// ---- choices
-
-fn choose(first: bool, a: u64, b: u64) -> u64
-    ensures { result ≡ cond first a b }
-{
-    if first {
-        return a;
-    }
-    b
+// What a condition's object has given up to a place.
+#[derive(Clone, Copy, Debug, Default, PartialEq, Eq)]
+struct Gathered {
+    index: Option<u8>,
+    width: Option<Width>,
+    comparison: Option<Comparison>,
+    value: Option<u64>,
+    commented: bool,
 }
 
-fn choose_byte(first: bool, a: u8, b: u8) -> u8
-    ensures { result ≡ cond first a b }
-{
-    if first {
-        return a;
-    }
-    b
+// What was gathered, and whether more is to come.
+#[derive(Clone, Copy, Debug, PartialEq, Eq)]
+struct Turn {
+    gathered: Gathered,
+    more: bool,
 }
 
 // Whether a byte stands at a place.
-fn stands(text: &[u8], at: usize, byte: u8) -> bool
+pub fn stands(text: &[u8], at: usize, byte: u8) -> bool
     requires { 0 < byte }
     ensures { result ≡ eqb (first (drop at text.now)) byte }
 {
-    if at < text.len() {
-        return text[at] == byte;
-    }
-    false
+    at < text.len() && text[at] == byte
 }
 
 // ---- words
 
-// The action that a word means; 2^32 if it means none.
-fn action_meant(w: Word) -> u64
-    ensures { (s : List ℕ) → Packs s w → result ≡ number_or 4294967296 (λ a. a) (word_of action_words s) }
+// The action that a word means.
+fn action_meant(w: Word) -> Option<u64>
+    ensures { (s : List ℕ) → Packs s w → result ≡ option_of (word_of action_words s) }
 {
-    let user_notif = choose(
-        is_word(w, 10, 0x746f6e5f72657375, 0x6669),
-        0x7fc00000,
-        4294967296,
-    );
-    let trap = choose(is_word(w, 4, 0x70617274, 0), 0x00030000, user_notif);
-    let log = choose(is_word(w, 3, 0x676f6c, 0), 0x7ffc0000, trap);
-    let kill_process = choose(
-        is_word(w, 12, 0x6f72705f6c6c696b, 0x73736563),
-        0x80000000,
-        log,
-    );
-    let kill_thread = choose(
-        is_word(w, 11, 0x7268745f6c6c696b, 0x646165),
-        0,
-        kill_process,
-    );
-    choose(is_word(w, 5, 0x776f6c6c61, 0), 0x7fff0000, kill_thread)
+    if is_word(w, 5, 0x776f6c6c61, 0) {
+        Some(0x7fff0000)
+    } else if is_word(w, 11, 0x7268745f6c6c696b, 0x646165) {
+        Some(0)
+    } else if is_word(w, 12, 0x6f72705f6c6c696b, 0x73736563) {
+        Some(0x80000000)
+    } else if is_word(w, 3, 0x676f6c, 0) {
+        Some(0x7ffc0000)
+    } else if is_word(w, 4, 0x70617274, 0) {
+        Some(0x00030000)
+    } else if is_word(w, 10, 0x746f6e5f72657375, 0x6669) {
+        Some(0x7fc00000)
+    } else {
+        None
+    }
 }
 
-// The number of the width that a word means; 0 if it means none.
-fn width_meant(w: Word) -> u8
-    ensures { (s : List ℕ) → Packs s w → result ≡ number_or 0 width_number (word_of width_words s) }
+// The width that a word means.
+fn width_meant(w: Word) -> Option<Width>
+    ensures { (s : List ℕ) → Packs s w → result ≡ option_of (word_of width_words s) }
 {
-    let qword = choose_byte(is_word(w, 5, 0x64726f7771, 0), 8, 0);
-    choose_byte(is_word(w, 5, 0x64726f7764, 0), 4, qword)
+    if is_word(w, 5, 0x64726f7764, 0) {
+        Some(Width::Dword)
+    } else if is_word(w, 5, 0x64726f7771, 0) {
+        Some(Width::Qword)
+    } else {
+        None
+    }
 }
 
-// The number of the operator that a word means; 7 if it means none.
-fn operator_meant(w: Word) -> u8
-    ensures { (s : List ℕ) → Packs s w → result ≡ number_or 7 operator_number (word_of operator_words s) }
+// The operator that a word means.
+fn operator_meant(w: Word) -> Option<Operator>
+    ensures { (s : List ℕ) → Packs s w → result ≡ option_of (word_of operator_words s) }
 {
-    let ne = choose_byte(is_word(w, 2, 0x656e, 0), 6, 7);
-    let lt = choose_byte(is_word(w, 2, 0x746c, 0), 4, ne);
-    let le = choose_byte(is_word(w, 2, 0x656c, 0), 3, lt);
-    let gt = choose_byte(is_word(w, 2, 0x7467, 0), 2, le);
-    let ge = choose_byte(is_word(w, 2, 0x6567, 0), 1, gt);
-    choose_byte(is_word(w, 2, 0x7165, 0), 0, ge)
+    if is_word(w, 2, 0x7165, 0) {
+        Some(Operator::Eq)
+    } else if is_word(w, 2, 0x6567, 0) {
+        Some(Operator::Ge)
+    } else if is_word(w, 2, 0x7467, 0) {
+        Some(Operator::Gt)
+    } else if is_word(w, 2, 0x656c, 0) {
+        Some(Operator::Le)
+    } else if is_word(w, 2, 0x746c, 0) {
+        Some(Operator::Lt)
+    } else if is_word(w, 2, 0x656e, 0) {
+        Some(Operator::Ne)
+    } else {
+        None
+    }
 }
 
-// What the only key of an object stands for; 2^32 if it is not known.
-fn key_known(w: Word, masked: bool) -> u64
-    ensures { (s : List ℕ) → Packs s w → result ≡ number_or 4294967296 (λ n. n) (key_known masked s) }
+// What the only key of an object stands for.
+fn key_known(w: Word, masked: bool) -> Option<u64>
+    ensures { (s : List ℕ) → Packs s w → result ≡ option_of (key_known masked s) }
 {
     if masked {
-        return choose(is_word(w, 9, 0x655f64656b73616d, 0x71), 0, 4294967296);
+        if is_word(w, 9, 0x655f64656b73616d, 0x71) {
+            Some(0)
+        } else {
+            None
+        }
+    } else if is_word(w, 5, 0x6f6e727265, 0) {
+        Some(ERRNO)
+    } else if is_word(w, 5, 0x6563617274, 0) {
+        Some(TRACE)
+    } else {
+        None
     }
-    let trace = choose(is_word(w, 5, 0x6563617274, 0), 0x7ff00000, 4294967296);
-    choose(is_word(w, 5, 0x6f6e727265, 0), 0x00050000, trace)
 }
 
 // Whether a key is the one that stands for this.
 fn key_again(w: Word, meant: u64) -> bool
     ensures { (s : List ℕ) → Packs s w → result ≡ same (key_meant meant) s }
 {
-    if meant == 0x00050000 {
-        return is_word(w, 5, 0x6f6e727265, 0);
+    match meant {
+        ERRNO => is_word(w, 5, 0x6f6e727265, 0),
+        TRACE => is_word(w, 5, 0x6563617274, 0),
+        _ => is_word(w, 9, 0x655f64656b73616d, 0x71),
     }
-    if meant == 0x7ff00000 {
-        return is_word(w, 5, 0x6563617274, 0);
-    }
-    is_word(w, 9, 0x655f64656b73616d, 0x71)
 }
 
 // ---- an object with one key
 
-fn stopped(code: u32, at: usize) -> Step
-    ensures { (result.code ≡ code) × (result.at ≡ at) }
-{
-    Step {
-        code: code,
-        at: at,
-        value: 0,
-    }
-}
-
 // Up to its value: what its key stands for.
-fn one_begins(text: &[u8], at: usize, masked: bool) -> Step
-    requires { (at ≤ length text.now) × (length text.now ≤ 1048576) }
-    ensures { Tells text.now at (λ n. (result.value ≡ n) × (n ≤ 2147483648)) (one_begins (key_known masked) (drop at text.now)) result.code result.at }
+fn one_begins(text: &[u8], at: usize, masked: bool) -> Reading<u64>
+    requires { at ≤ length text.now }
+    ensures { Reads text.now at (λ n v. (v ≡ n) × (n ≤ 2147483648)) (one_begins (key_known masked) (drop at text.now)) result }
 {
-    let open = json_parts::open_there(text, at, 0x7b);
-    if open.code != 0 {
-        return open;
-    }
+    let open = json_parts::open_there(text, at, b'{')?;
     let start = json_scan::skip_blanks(text, open.at);
-    if stands(text, start, 0x7d) {
-        return stopped(11, start);
+    if stands(text, start, b'}') {
+        return Err(Misread {
+            why: Refusal::NotOfForm,
+            at: start,
+        });
     }
-    let key = json_parts::key_there(text, start);
-    if key.code != 0 {
-        return stopped(key.code, key.at);
-    }
-    let meant = key_known(key, masked);
-    if meant == 4294967296 {
-        return stopped(11, start);
-    }
-    let colon = json_parts::colon_there(text, key.at);
-    if colon.code != 0 {
-        return colon;
-    }
-    Step {
-        code: 0,
+    let key = json_parts::key_there(text, start)?;
+    let Some(meant) = key_known(key.value, masked) else {
+        return Err(Misread {
+            why: Refusal::NotOfForm,
+            at: start,
+        });
+    };
+    let colon = json_parts::colon_there(text, key.at)?;
+    Ok(Read {
         at: colon.at,
         value: meant,
-    }
+    })
 }
 
 // Behind its value: it ends there, or has another key, which is refused.
-fn one_ends(text: &[u8], at: usize, meant: u64) -> Step
-    requires { (at ≤ length text.now) × (length text.now ≤ 1048576) }
-    ensures { Tells text.now at (λ z. Unit {0}) (one_ends (key_meant meant) (drop at text.now)) result.code result.at }
+fn one_ends(text: &[u8], at: usize, meant: u64) -> Reading<()>
+    requires { at ≤ length text.now }
+    ensures { Reads text.now at (λ z v. Unit {0}) (one_ends (key_meant meant) (drop at text.now)) result }
 {
-    let next = json_parts::more_there(text, at, 0x7d);
-    if next.code != 0 {
-        return stopped(next.code, next.at);
-    }
-    if !next.more {
-        return stopped(0, next.at);
+    let next = json_parts::more_there(text, at, b'}')?;
+    if !next.value {
+        return Ok(Read {
+            at: next.at,
+            value: (),
+        });
     }
     let start = json_scan::skip_blanks(text, next.at);
-    let key = json_parts::key_there(text, start);
-    if key.code != 0 {
-        return stopped(key.code, key.at);
-    }
-    if key_again(key, meant) {
-        return stopped(12, start);
-    }
-    stopped(11, start)
+    let key = json_parts::key_there(text, start)?;
+    let why = if key_again(key.value, meant) {
+        Refusal::GivenTwice
+    } else {
+        Refusal::NotOfForm
+    };
+    Err(Misread { why, at: start })
 }
 
 // ---- actions
 
-fn action_word(text: &[u8], at: usize) -> Step
-    requires { (at ≤ length text.now) × (length text.now ≤ 1048576) }
-    ensures { Tells text.now at (λ a. result.value ≡ a) (word_there (word_of action_words) (drop at text.now)) result.code result.at }
+fn action_word(text: &[u8], at: usize) -> Reading<u64>
+    requires { at ≤ length text.now }
+    ensures { Reads text.now at (λ a v. v ≡ a) (word_there (word_of action_words) (drop at text.now)) result }
 {
-    let word = json_parts::word_there(text, at);
-    if word.code != 0 {
-        return stopped(word.code, word.at);
-    }
-    let meant = action_meant(word);
-    if meant == 4294967296 {
-        return stopped(11, at);
-    }
-    Step {
-        code: 0,
-        at: word.at,
-        value: meant,
+    let word = json_parts::word_there(text, at)?;
+    match action_meant(word.value) {
+        Some(value) => Ok(Read { at: word.at, value }),
+        None => Err(Misread {
+            why: Refusal::NotOfForm,
+            at,
+        }),
     }
 }
 
 // An object of errno or trace with a number of 32 bits, of which the low 16 are added.
-fn action_numbered(text: &[u8], at: usize) -> Step
-    requires { (at ≤ length text.now) × (length text.now ≤ 1048576) }
-    ensures { Tells text.now at (λ a. result.value ≡ a) (one_there (word_of numbered_words) (λ w. put_in (λ n. w + n % 2 ^ 16) (natural_there (2 ^ 32 - 1))) (drop at text.now)) result.code result.at }
+fn action_numbered(text: &[u8], at: usize) -> Reading<u64>
+    requires { at ≤ length text.now }
+    ensures { Reads text.now at (λ a v. v ≡ a) (one_there (word_of numbered_words) (λ w. put_in (λ n. w + n % 2 ^ 16) (natural_there (2 ^ 32 - 1))) (drop at text.now)) result }
 {
-    let key = one_begins(text, at, false);
-    if key.code != 0 {
-        return key;
-    }
-    let number = json_parts::natural_there(text, key.at, 4294967295);
-    if number.code != 0 {
-        return number;
-    }
-    let end = one_ends(text, number.at, key.value);
-    if end.code != 0 {
-        return end;
-    }
-    Step {
-        code: 0,
+    let key = one_begins(text, at, false)?;
+    let number = json_parts::natural_there(text, key.at, LARGEST_DWORD)?;
+    let end = one_ends(text, number.at, key.value)?;
+    Ok(Read {
         at: end.at,
         value: key.value + number.value % 65536,
-    }
+    })
 }
 
 // An action: a word, or an object of errno or trace with its number.
-pub fn action_there(text: &[u8], at: usize) -> Step
-    requires { (at ≤ length text.now) × (length text.now ≤ 1048576) }
-    ensures { Tells text.now at (λ a. result.value ≡ a) (action_there (drop at text.now)) result.code result.at }
+pub fn action_there(text: &[u8], at: usize) -> Reading<u64>
+    requires { at ≤ length text.now }
+    ensures { Reads text.now at (λ a v. v ≡ a) (action_there (drop at text.now)) result }
 {
-    if stands(text, at, 0x22) {
-        return action_word(text, at);
+    if stands(text, at, b'"') {
+        action_word(text, at)
+    } else {
+        action_numbered(text, at)
     }
-    action_numbered(text, at)
 }
 
 // ---- the values of a condition's fields
 
-fn refused(code: u32, at: usize) -> ConditionRead
-    ensures { (result.code ≡ code) × (result.at ≡ at) }
-{
-    ConditionRead {
-        code: code,
-        at: at,
-        index: 0,
-        width: 0,
-        operator: 0,
-        value: 0,
-        mask: 0,
-    }
-}
-
 // An argument's index: 5 at most.
-fn index_there(text: &[u8], at: usize) -> ConditionRead
-    requires { (at ≤ length text.now) × (length text.now ≤ 1048576) }
-    ensures { Tells text.now at (λ i. result.index ≡ i) (judged (λ i. asked (leb i 5) wrong_index i) (natural_there 255) (drop at text.now)) result.code result.at }
+fn index_there(text: &[u8], at: usize) -> Reading<Part>
+    requires { at ≤ length text.now }
+    ensures { Reads text.now at (λ i v. v ≡ part_of (the_index i)) (judged (λ i. asked (leb i 5) wrong_index i) (natural_there 255) (drop at text.now)) result }
 {
-    let number = json_parts::natural_there(text, at, 255);
-    if number.code != 0 {
-        return refused(number.code, number.at);
+    let number = json_parts::natural_there(text, at, 255)?;
+    if 5 < number.value {
+        return Err(Misread {
+            why: Refusal::NoArgument,
+            at,
+        });
     }
-    let index = number.value;
-    if 5 < index {
-        return refused(5, at);
-    }
-    ConditionRead {
-        code: 0,
+    Ok(Read {
         at: number.at,
-        index: index as u8,
-        width: 0,
-        operator: 0,
-        value: 0,
-        mask: 0,
+        value: Part::Index(number.value as u8),
+    })
+}
+
+fn width_there(text: &[u8], at: usize) -> Reading<Part>
+    requires { at ≤ length text.now }
+    ensures { Reads text.now at (λ w v. v ≡ part_of (the_width w)) (word_there (word_of width_words) (drop at text.now)) result }
+{
+    let word = json_parts::word_there(text, at)?;
+    match width_meant(word.value) {
+        Some(width) => Ok(Read {
+            at: word.at,
+            value: Part::Width(width),
+        }),
+        None => Err(Misread {
+            why: Refusal::NotOfForm,
+            at,
+        }),
     }
 }
 
-fn width_there(text: &[u8], at: usize) -> ConditionRead
-    requires { (at ≤ length text.now) × (length text.now ≤ 1048576) }
-    ensures { Tells text.now at (λ w. result.width ≡ width_number w) (word_there (word_of width_words) (drop at text.now)) result.code result.at }
+fn operator_word(text: &[u8], at: usize) -> Reading<Comparison>
+    requires { at ≤ length text.now }
+    ensures { Reads text.now at (λ o v. v ≡ comparison_of o) (word_there (λ s. then (word_of operator_words s) (λ o. some (record { operator = o; mask = 0 }))) (drop at text.now)) result }
 {
-    let word = json_parts::word_there(text, at);
-    if word.code != 0 {
-        return refused(word.code, word.at);
-    }
-    let meant = width_meant(word);
-    if meant == 0 {
-        return refused(11, at);
-    }
-    ConditionRead {
-        code: 0,
-        at: word.at,
-        index: 0,
-        width: meant,
-        operator: 0,
-        value: 0,
-        mask: 0,
-    }
-}
-
-fn operator_word(text: &[u8], at: usize) -> ConditionRead
-    requires { (at ≤ length text.now) × (length text.now ≤ 1048576) }
-    ensures { Tells text.now at (λ o. Compares result o) (word_there (λ s. then (word_of operator_words s) (λ o. some (record { operator = o; mask = 0 }))) (drop at text.now)) result.code result.at }
-{
-    let word = json_parts::word_there(text, at);
-    if word.code != 0 {
-        return refused(word.code, word.at);
-    }
-    let meant = operator_meant(word);
-    if meant == 7 {
-        return refused(11, at);
-    }
-    ConditionRead {
-        code: 0,
-        at: word.at,
-        index: 0,
-        width: 0,
-        operator: meant,
-        value: 0,
-        mask: 0,
+    let word = json_parts::word_there(text, at)?;
+    match operator_meant(word.value) {
+        Some(operator) => Ok(Read {
+            at: word.at,
+            value: Comparison { operator, mask: 0 },
+        }),
+        None => Err(Misread {
+            why: Refusal::NotOfForm,
+            at,
+        }),
     }
 }
 
 // An object of masked_eq with its mask.
-fn operator_masked(text: &[u8], at: usize) -> ConditionRead
-    requires { (at ≤ length text.now) × (length text.now ≤ 1048576) }
-    ensures { Tells text.now at (λ o. Compares result o) (one_there {A = ℕ} (λ k. check (same (ascii "masked_eq") k) (some 0)) (λ w. put_in (λ m. record { operator = MaskedEq; mask = m }) (natural_there (2 ^ 64 - 1))) (drop at text.now)) result.code result.at }
+fn operator_masked(text: &[u8], at: usize) -> Reading<Comparison>
+    requires { at ≤ length text.now }
+    ensures { Reads text.now at (λ o v. v ≡ comparison_of o) (one_there {A = ℕ} (λ k. check (same (ascii "masked_eq") k) (some 0)) (λ w. put_in (λ m. record { operator = MaskedEq; mask = m }) (natural_there (2 ^ 64 - 1))) (drop at text.now)) result }
 {
-    let key = one_begins(text, at, true);
-    if key.code != 0 {
-        return refused(key.code, key.at);
-    }
-    let mask = json_parts::natural_there(text, key.at, 18446744073709551615);
-    if mask.code != 0 {
-        return refused(mask.code, mask.at);
-    }
-    let end = one_ends(text, mask.at, key.value);
-    if end.code != 0 {
-        return refused(end.code, end.at);
-    }
-    ConditionRead {
-        code: 0,
+    let key = one_begins(text, at, true)?;
+    let mask = json_parts::natural_there(text, key.at, u64::MAX)?;
+    let end = one_ends(text, mask.at, key.value)?;
+    Ok(Read {
         at: end.at,
-        index: 0,
-        width: 0,
-        operator: 5,
-        value: 0,
-        mask: mask.value,
-    }
+        value: Comparison {
+            operator: Operator::MaskedEq,
+            mask: mask.value,
+        },
+    })
 }
 
-fn operator_there(text: &[u8], at: usize) -> ConditionRead
-    requires { (at ≤ length text.now) × (length text.now ≤ 1048576) }
-    ensures { Tells text.now at (λ o. Compares result o) (operator_there (drop at text.now)) result.code result.at }
+fn operator_there(text: &[u8], at: usize) -> Reading<Comparison>
+    requires { at ≤ length text.now }
+    ensures { Reads text.now at (λ o v. v ≡ comparison_of o) (operator_there (drop at text.now)) result }
 {
-    if stands(text, at, 0x22) {
-        return operator_word(text, at);
-    }
-    operator_masked(text, at)
-}
-
-fn value_there(text: &[u8], at: usize) -> ConditionRead
-    requires { (at ≤ length text.now) × (length text.now ≤ 1048576) }
-    ensures { Tells text.now at (λ x. result.value ≡ x) (natural_there (2 ^ 64 - 1) (drop at text.now)) result.code result.at }
-{
-    let number = json_parts::natural_there(text, at, 18446744073709551615);
-    ConditionRead {
-        code: number.code,
-        at: number.at,
-        index: 0,
-        width: 0,
-        operator: 0,
-        value: number.value,
-        mask: 0,
+    if stands(text, at, b'"') {
+        operator_word(text, at)
+    } else {
+        operator_masked(text, at)
     }
 }
 
 // The value of the field that has this number.
-fn part_there(text: &[u8], at: usize, field: u64) -> ConditionRead
-    requires { (at ≤ length text.now) × (length text.now ≤ 1048576) }
-    ensures { (slots : List Slot) → Tells text.now at (λ p. Holds result field p) (condition_reads (judges_of slots) field (drop at text.now)) result.code result.at }
+fn part_there(text: &[u8], at: usize, field: u64) -> Reading<Part>
+    requires { at ≤ length text.now }
+    ensures { (slots : List Slot) → Reads text.now at (λ p v. Holds v field p) (condition_reads (judges_of slots) field (drop at text.now)) result }
 {
-    if field == 0 {
-        return index_there(text, at);
+    match field {
+        0 => index_there(text, at),
+        1 => width_there(text, at),
+        2 => {
+            let comparison = operator_there(text, at)?;
+            Ok(Read {
+                at: comparison.at,
+                value: Part::Compares(comparison.value),
+            })
+        }
+        3 => {
+            let number = json_parts::natural_there(text, at, u64::MAX)?;
+            Ok(Read {
+                at: number.at,
+                value: Part::Value(number.value),
+            })
+        }
+        4 => {
+            let comment = json_parts::comment_there(text, at)?;
+            Ok(Read {
+                at: comment.at,
+                value: Part::Comment,
+            })
+        }
+        _ => Err(Misread {
+            why: Refusal::NotOfForm,
+            at,
+        }),
     }
-    if field == 1 {
-        return width_there(text, at);
-    }
-    if field == 2 {
-        return operator_there(text, at);
-    }
-    if field == 3 {
-        return value_there(text, at);
-    }
-    if field == 4 {
-        let comment = json_parts::comment_there(text, at);
-        return refused(comment.code, comment.at);
-    }
-    refused(11, at)
 }
 
 // ---- a condition, field by field
-
-// Nothing was given yet.
-fn nothing(code: u32, at: usize, more: bool) -> Gathered
-    ensures { (result.code ≡ code) × (result.at ≡ at) × (result.more ≡ more) × Kept [] result }
-{
-    Gathered {
-        code: code,
-        at: at,
-        more: more,
-        indexed: false,
-        sized: false,
-        compared: false,
-        valued: false,
-        remarked: false,
-        index: 0,
-        width: 0,
-        operator: 0,
-        value: 0,
-        mask: 0,
-    }
-}
 
 // Whether a field was given before.
 fn given(g: Gathered, field: u64) -> bool
     ensures { (ts : Parts) → Kept ts g → result ≡ has_typed field ts }
 {
-    if field == 0 {
-        return g.indexed;
+    match field {
+        0 => g.index.is_some(),
+        1 => g.width.is_some(),
+        2 => g.comparison.is_some(),
+        3 => g.value.is_some(),
+        4 => g.commented,
+        _ => false,
     }
-    if field == 1 {
-        return g.sized;
-    }
-    if field == 2 {
-        return g.compared;
-    }
-    if field == 3 {
-        return g.valued;
-    }
-    if field == 4 {
-        return g.remarked;
-    }
-    false
 }
 
 // A field that was read is given now.
-fn taken(g: Gathered, field: u64, part: ConditionRead, at: usize, more: bool) -> Gathered
-    ensures { (result.code ≡ 0) × (result.at ≡ at) × (result.more ≡ more) × ((ts : Parts) (p : ConditionPart) → Kept ts g → Holds part field p → Kept (typed field p ∷ ts) result) }
+fn taken(g: Gathered, part: Part) -> Gathered
+    ensures { (ts : Parts) (field : ℕ) (p : ConditionPart) → Kept ts g → Holds part field p → Kept (typed field p ∷ ts) result }
 {
-    let indexed = either(field == 0, g.indexed);
-    let sized = either(field == 1, g.sized);
-    let compared = either(field == 2, g.compared);
-    let valued = either(field == 3, g.valued);
-    let remarked = either(field == 4, g.remarked);
-    let index = choose_byte(field == 0, part.index, g.index);
-    let width = choose_byte(field == 1, part.width, g.width);
-    let operator = choose_byte(field == 2, part.operator, g.operator);
-    let mask = choose(field == 2, part.mask, g.mask);
-    let value = choose(field == 3, part.value, g.value);
-    Gathered {
-        code: 0,
-        at: at,
-        more: more,
-        indexed: indexed,
-        sized: sized,
-        compared: compared,
-        valued: valued,
-        remarked: remarked,
-        index: index,
-        width: width,
-        operator: operator,
-        value: value,
-        mask: mask,
+    match part {
+        Part::Index(index) => Gathered {
+            index: Some(index),
+            ..g
+        },
+        Part::Width(width) => Gathered {
+            width: Some(width),
+            ..g
+        },
+        Part::Compares(comparison) => Gathered {
+            comparison: Some(comparison),
+            ..g
+        },
+        Part::Value(value) => Gathered {
+            value: Some(value),
+            ..g
+        },
+        Part::Comment => Gathered {
+            commented: true,
+            ..g
+        },
     }
 }
 
 // Up to the first key of a condition's object.
-fn condition_begins(text: &[u8], at: usize) -> Gathered
-    requires { (at ≤ length text.now) × (length text.now ≤ 1048576) }
+fn condition_begins(text: &[u8], at: usize) -> Reading<Turn>
+    requires { at ≤ length text.now }
     ensures { (slots : List Slot) → Left slots text.now at (condition_object slots (drop at text.now)) result }
 {
-    let open = json_parts::open_there(text, at, 0x7b);
-    if open.code != 0 {
-        return nothing(open.code, open.at, false);
-    }
+    let gathered = Gathered::default();
+    let open = json_parts::open_there(text, at, b'{')?;
     let start = json_scan::skip_blanks(text, open.at);
-    if stands(text, start, 0x7d) {
-        return nothing(0, start + 1, false);
+    if stands(text, start, b'}') {
+        return Ok(Read {
+            at: start + 1,
+            value: Turn {
+                gathered,
+                more: false,
+            },
+        });
     }
-    nothing(0, open.at, true)
+    Ok(Read {
+        at: open.at,
+        value: Turn {
+            gathered,
+            more: true,
+        },
+    })
 }
 
 // One key with its value, and what stands behind it.
-fn condition_turn(text: &[u8], g: Gathered) -> Gathered
-    requires { (g.at ≤ length text.now) × (length text.now ≤ 1048576) }
-    ensures { (slots : List Slot) (ts : Parts) (n : ℕ) → Kept ts g → length text.now ≤ g.at + n → Left slots text.now g.at (condition_turns slots n ts (drop g.at text.now)) result }
+fn condition_turn(text: &[u8], at: usize, g: Gathered) -> Reading<Turn>
+    requires { at ≤ length text.now }
+    ensures { (slots : List Slot) (ts : Parts) (n : ℕ) → Kept ts g → length text.now ≤ at + n → Left slots text.now at (condition_turns slots n ts (drop at text.now)) result }
 {
-    let start = json_scan::skip_blanks(text, g.at);
-    let key = json_parts::field_there(text, start, 0);
-    if key.code != 0 {
-        return nothing(key.code, key.at, false);
+    let start = json_scan::skip_blanks(text, at);
+    let field = json_parts::field_there(text, start, Object::Condition)?;
+    if given(g, field.value) {
+        return Err(Misread {
+            why: Refusal::GivenTwice,
+            at: start,
+        });
     }
-    let field = key.value;
-    if given(g, field) {
-        return nothing(12, start, false);
-    }
-    let colon = json_parts::colon_there(text, key.at);
-    if colon.code != 0 {
-        return nothing(colon.code, colon.at, false);
-    }
-    let part = part_there(text, colon.at, field);
-    if part.code != 0 {
-        return nothing(part.code, part.at, false);
-    }
-    let next = json_parts::more_there(text, part.at, 0x7d);
-    if next.code != 0 {
-        return nothing(next.code, next.at, false);
-    }
-    taken(g, field, part, next.at, next.more)
-}
-
-// Whether all were given that a condition must have.
-fn complete(g: Gathered) -> bool
-    ensures { result ≡ (g.indexed && (g.sized && (g.compared && g.valued))) }
-{
-    both(g.indexed, both(g.sized, both(g.compared, g.valued)))
+    let colon = json_parts::colon_there(text, field.at)?;
+    let part = part_there(text, colon.at, field.value)?;
+    let next = json_parts::more_there(text, part.at, b'}')?;
+    Ok(Read {
+        at: next.at,
+        value: Turn {
+            gathered: taken(g, part.value),
+            more: next.value,
+        },
+    })
 }
 
 // Whether the width sees the whole of the value and of the mask.
-fn fits(width: u8, value: u64, mask: u64) -> bool
-    ensures { result ≡ cond (eqb width 4) (leb value 4294967295 && leb mask 4294967295) true }
+fn fits(q: Condition) -> bool
+    ensures { result ≡ fits_width q }
 {
-    if width == 4 {
-        return both(value <= 4294967295, mask <= 4294967295);
+    match q.width {
+        Width::Dword => q.value <= LARGEST_DWORD && q.mask <= LARGEST_DWORD,
+        Width::Qword => true,
     }
-    true
 }
 
 // What was given, as a condition.
-fn condition_ends(at: usize, g: Gathered) -> ConditionRead
-    requires { g.code ≡ 0 → 0 < g.at }
-    ensures { (slots : List Slot) (text : List ℕ) → at ≤ length text → g.more ≡ false → Left slots text at (condition_object slots (drop at text)) g → Tells text at (λ q. Spells result q) (condition_there (judges_of slots) (drop at text)) result.code result.at }
+fn condition_ends(at: usize, end: usize, g: Gathered) -> Reading<Condition>
+    requires { 0 < end }
+    ensures { (slots : List Slot) (text : List ℕ) → at ≤ length text → Ended text at (condition_object slots (drop at text)) end g → Reads text at (λ q v. v ≡ q) (condition_there (judges_of slots) (drop at text)) result }
 {
-    let end = g.at;
-    if g.code != 0 {
-        return refused(g.code, end);
+    let (Some(index), Some(width), Some(comparison), Some(value)) = (
+        g.index,
+        g.width,
+        g.comparison,
+        g.value,
+    ) else {
+        return Err(Misread {
+            why: Refusal::NotOfForm,
+            at: end - 1,
+        });
+    };
+    let q = Condition {
+        index,
+        width,
+        operator: comparison.operator,
+        value,
+        mask: comparison.mask,
+    };
+    if !fits(q) {
+        return Err(Misread {
+            why: Refusal::TooWide,
+            at,
+        });
     }
-    if !complete(g) {
-        return refused(11, end - 1);
-    }
-    if !fits(g.width, g.value, g.mask) {
-        return refused(8, at);
-    }
-    ConditionRead {
-        code: 0,
-        at: end,
-        index: g.index,
-        width: g.width,
-        operator: g.operator,
-        value: g.value,
-        mask: g.mask,
-    }
+    Ok(Read { at: end, value: q })
 }
 
 // A condition. Of the judges' table it asks nothing.
-pub fn condition_there(text: &[u8], at: usize) -> ConditionRead
-    requires { (at ≤ length text.now) × (length text.now ≤ 1048576) }
-    ensures { (slots : List Slot) → Tells text.now at (λ q. Spells result q) (condition_there (judges_of slots) (drop at text.now)) result.code result.at }
+pub fn condition_there(text: &[u8], at: usize) -> Reading<Condition>
+    requires { at ≤ length text.now }
+    ensures { (slots : List Slot) → Reads text.now at (λ q v. v ≡ q) (condition_there (judges_of slots) (drop at text.now)) result }
 {
-    let mut g = condition_begins(text, at);
-    while g.more {
-        g = condition_turn(text, g);
+    let mut turn = condition_begins(text, at)?;
+    while turn.value.more {
+        turn = condition_turn(text, turn.at, turn.value.gathered)?;
     }
-    condition_ends(at, g)
+    condition_ends(at, turn.at, turn.value.gathered)
 }

@@ -1,8 +1,9 @@
 -- A filter whose fields are gathered: what is missing, what is equal, and what is written of it.
 use mathlib.Core.Path.{◌≡◌, refl, ap, sym, ◌∙◌, subst}
-use mathlib.Core.Bool.{Bool, true, false, not, ◌&&◌}
+use mathlib.Core.Bool.{Bool, true, false, not}
 use mathlib.Core.List.{List, [], ◌∷◌, ◌++◌}
 use mathlib.Core.Option.{Option, none, some}
+use Rattle.std.specs.Prelude.{None, Some}
 use Prim.Native.Nat.{ℕ, ◌+◌, ◌-◌, ◌≤◌}
 use native.Mathlib.Omega.{arith}
 use lib.Dec.{eqb}
@@ -18,7 +19,7 @@ use Rattle.definitions.specs.JsonReader.{Got, got, follow}
 use Rattle.definitions.specs.FormReader.{not_of_form, equal_actions, Typed, value_of, FilterPart, the_action, the_lines, as_action, as_lines, filter_from, filter_there, keyed_there, judged, answered, asked, ending, is_some, judges_of}
 use Rattle.definitions.specs.Collected.{rules_of_args, numbered, collected, now, set_with, taken, set_of}
 use Rattle.theorems.proofs.Names.{head_forth}
-use Rattle.json_theorems.proofs.Tests.{false_not_true, both_true, then_some}
+use Rattle.json_theorems.proofs.Tests.{false_not_true, then_some}
 use Rattle.json_theorems.proofs.Faith.{some_same}
 use Rattle.json_theorems.proofs.Objects.{ok_filter, only, filter_faithful, filter_only}
 use Rattle.json_theorems.proofs.Sets.{filter_taken}
@@ -30,62 +31,70 @@ use Rattle.call_names.proofs.Tables.{good_table}
 use Rattle.collect.specs.Raw.{OfLine, Raw}
 use Rattle.collect.proofs.Sorting.{collected_shorter}
 use Rattle.json_filters.specs.declared.Parts.{Parts}
-use Rattle.json_filters.specs.declared.Turn.{Turn}
 use Rattle.json_filters.specs.Filters.{table_slots, Lent, Untouched, ActionHeld, LinesWritten, LinesHeld, Gathered, AllGathered, set_bytes, Behind, SetWritten}
 use Rattle.json_filters.proofs.Turning.{object}
 
 -- ---- its fields
 
-abbrev filter_with : List ℕ → Parts → List Line → Filter
-filter_with name p ls = record { name = name; mismatch = p.mismatch; on_match = p.on_match; lines = ls }
+abbrev filter_with : List ℕ → ℕ → ℕ → List Line → Filter
+filter_with name mismatch on_match ls = record { name = name; mismatch = mismatch; on_match = on_match; lines = ls }
 
 -- all fields are there, and make this filter
-pub record WholeFilter (slots : List Slot) (t : ℕ) (scratch : List ℕ) (p : Parts) (ts : List (Typed FilterPart)) : Type 0 where
+pub record WholeFilter (slots : List Slot) (t : ℕ) (scratch : List ℕ) (mismatch on_match count : ℕ) (ts : List (Typed FilterPart)) : Type 0 where
   pub lines : List Line
-  pub made : (name : List ℕ) → filter_from name (λ f. some (value_of f ts)) ≡ some (filter_with name p lines)
-  pub written : LinesWritten slots t scratch p.count lines
+  pub made : (name : List ℕ) → filter_from name (λ f. some (value_of f ts)) ≡ some (filter_with name mismatch on_match lines)
+  pub written : LinesWritten slots t scratch count lines
 
-abbrev from_three : List ℕ → Option FilterPart → Option FilterPart → Option FilterPart → Option Filter
-from_three name a b c = then (as_action a) (λ d. then (as_action b) (λ m. then (as_lines c) (λ ls. some (record { name = name; mismatch = d; on_match = m; lines = ls }))))
+abbrev made_from : List ℕ → Option ℕ → Option ℕ → Option (List Line) → Option Filter
+made_from name a b c = then a (λ d. then b (λ m. then c (λ ls. some (record { name = name; mismatch = d; on_match = m; lines = ls }))))
 
-pub whole_filter : {slots : List Slot} {t : ℕ} {s : List ℕ} {p : Parts} {ts : List (Typed FilterPart)} → Gathered slots t s p ts → (p.mismatch_given && (p.match_given && p.lines_given)) ≡ true
-    → WholeFilter slots t s p ts
-whole_filter {slots = slots} {t} {s} {p} {ts} g h = go (value_of 0 ts) refl (value_of 1 ts) refl (value_of 2 ts) refl g.mismatch g.on_match g.lines
-  where
-    given : (p.mismatch_given ≡ true) × ((p.match_given && p.lines_given) ≡ true)
-    given = both_true p.mismatch_given (p.match_given && p.lines_given) h
+action_held : (o : Option FilterPart) (v : ℕ) → ActionHeld o (Some v) → as_action o ≡ some v
+action_held none v h = cc
+action_held (some (the_action a)) v h = let e : v ≡ a = cc in ap (λ x. some x) (sym e)
+action_held (some (the_lines ls)) v h = absurd h
 
-    given' : (p.match_given ≡ true) × (p.lines_given ≡ true)
-    given' = both_true p.match_given p.lines_given given.1
+action_missing : (o : Option FilterPart) → ActionHeld o None → as_action o ≡ none
+action_missing none h = refl
+action_missing (some (the_action a)) h = cc
+action_missing (some (the_lines ls)) h = absurd h
 
-    go : (a : Option FilterPart) → value_of 0 ts ≡ a → (b : Option FilterPart) → value_of 1 ts ≡ b → (c : Option FilterPart) → value_of 2 ts ≡ c
-        → ActionHeld a p.mismatch_given p.mismatch → ActionHeld b p.match_given p.on_match → LinesHeld slots t s c p.lines_given p.count
-        → WholeFilter slots t s p ts
-    go none ea b eb c ec x y z = absurd (false_not_true (sym x ∙ given.0))
-    go (some (the_lines ls)) ea b eb c ec x y z = absurd x
-    go (some (the_action d)) ea none eb c ec x y z = absurd (false_not_true (sym y ∙ given'.0))
-    go (some (the_action d)) ea (some (the_lines ls)) eb c ec x y z = absurd y
-    go (some (the_action d)) ea (some (the_action m)) eb none ec x y z = absurd (false_not_true (sym z ∙ given'.1))
-    go (some (the_action d)) ea (some (the_action m)) eb (some (the_action e)) ec x y z = absurd z
-    go (some (the_action d)) ea (some (the_action m)) eb (some (the_lines ls)) ec x y z = record {
-      lines = ls;
-      made = λ name. rw (ea, eb, ec, x.1, y.1);
-      written = z.1;
-    }
+module _ (slots : List Slot) (t : ℕ) (s : List ℕ) where
+  lines_held : (o : Option FilterPart) (n : ℕ) → LinesHeld slots t s o (Some n) → (ls : List Line) × (as_lines o ≡ some ls) × LinesWritten slots t s n ls
+  lines_held none n h = cc
+  lines_held (some (the_action a)) n h = absurd h
+  lines_held (some (the_lines ls)) n h = (ls, refl, h)
 
-pub missing_part : {slots : List Slot} {t : ℕ} {s : List ℕ} {p : Parts} {ts : List (Typed FilterPart)} → Gathered slots t s p ts → (p.mismatch_given && (p.match_given && p.lines_given)) ≡ false
-    → (name : List ℕ) → filter_from name (λ f. some (value_of f ts)) ≡ none
-missing_part {slots = slots} {t} {s} {p} {ts} g h name = go (value_of 0 ts) (value_of 1 ts) (value_of 2 ts) g.mismatch g.on_match g.lines
-  where
-    go : (a b c : Option FilterPart) → ActionHeld a p.mismatch_given p.mismatch → ActionHeld b p.match_given p.on_match → LinesHeld slots t s c p.lines_given p.count
-        → from_three name a b c ≡ none
-    go none b c x y z = refl
-    go (some (the_lines ls)) b c x y z = absurd x
-    go (some (the_action d)) none c x y z = refl
-    go (some (the_action d)) (some (the_lines ls)) c x y z = absurd y
-    go (some (the_action d)) (some (the_action m)) none x y z = refl
-    go (some (the_action d)) (some (the_action m)) (some (the_action e)) x y z = absurd z
-    go (some (the_action d)) (some (the_action m)) (some (the_lines ls)) x y z = absurd (false_not_true (sym h ∙ rw (x.0, y.0, z.0)))
+  lines_missing : (o : Option FilterPart) → LinesHeld slots t s o None → as_lines o ≡ none
+  lines_missing none h = refl
+  lines_missing (some (the_action a)) h = absurd h
+  lines_missing (some (the_lines ls)) h = absurd h
+
+module _ {slots : List Slot} {t : ℕ} {s : List ℕ} {p : Parts} {ts : List (Typed FilterPart)} (g : Gathered slots t s p ts) where
+  pub whole_filter : {d m n : ℕ} → p.mismatch ≡ Some d → p.on_match ≡ Some m → p.lines ≡ Some n → WholeFilter slots t s d m n ts
+  whole_filter {d} {m} {n} x y z =
+      let a = action_held (value_of 0 ts) d (rw x at g.mismatch) in
+      let b = action_held (value_of 1 ts) m (rw y at g.on_match) in
+      let c = lines_held slots t s (value_of 2 ts) n (rw z at g.lines) in
+      record { lines = c.0; made = λ name. rw (a, b, c.1); written = c.2 }
+
+  -- one of them is missing
+  pub no_mismatch : p.mismatch ≡ None → (name : List ℕ) → filter_from name (λ f. some (value_of f ts)) ≡ none
+  no_mismatch x name = rw (action_missing (value_of 0 ts) (rw x at g.mismatch))
+
+  pub no_match : p.on_match ≡ None → (name : List ℕ) → filter_from name (λ f. some (value_of f ts)) ≡ none
+  no_match y name = go (as_action (value_of 0 ts)) (as_action (value_of 1 ts)) (as_lines (value_of 2 ts)) (action_missing (value_of 1 ts) (rw y at g.on_match))
+    where
+      go : (a b : Option ℕ) (c : Option (List Line)) → b ≡ none → made_from name a b c ≡ none
+      go none b c e = refl
+      go (some d) b c e = rw e
+
+  pub no_lines : p.lines ≡ None → (name : List ℕ) → filter_from name (λ f. some (value_of f ts)) ≡ none
+  no_lines z name = go (as_action (value_of 0 ts)) (as_action (value_of 1 ts)) (as_lines (value_of 2 ts)) (lines_missing slots t s (value_of 2 ts) (rw z at g.lines))
+    where
+      go : (a b : Option ℕ) (c : Option (List Line)) → c ≡ none → made_from name a b c ≡ none
+      go none b c e = refl
+      go (some d) none c e = refl
+      go (some d) (some m) c e = rw e
 
 -- ---- the reader's filter
 
@@ -116,29 +125,27 @@ came_to slots name {text} {from} c o e =
     ap (λ x. follow (answered (ending x) (drop from text) c.rest) (judged_filter (drop from text))) (sym e)
     ∙ ap (λ g. follow (follow g (made_of name (drop from text))) (judged_filter (drop from text))) (sym c.got_it) ∙ filter_is_lem slots name (drop from text)
 
-pub filter_missing : (slots : List Slot) (name : List ℕ) {text scratch : List ℕ} {from at : ℕ} {r : Turn} {Is' : Filter → Type 0} → r.at ≡ at
-    → (c : Came text from (AllGathered slots text scratch r) (object slots (drop from text)) at) → filter_from name (λ f. some (value_of f c.part)) ≡ none
+pub filter_missing : (slots : List Slot) (name : List ℕ) {text scratch : List ℕ} {from at : ℕ} {p : Parts} {Is' : Filter → Type 0}
+    → (c : Came text from (AllGathered slots text scratch at p) (object slots (drop from text)) at) → filter_from name (λ f. some (value_of f c.part)) ≡ none
     → Tells text from Is' (filter slots name (drop from text)) not_of_form (at - 1)
-filter_missing slots name {text} {from = from} {at} {r} {Is'} q c e =
+filter_missing slots name {text} {from = from} {at} {Is' = Is'} c e =
     let k = c.value.closed in
-    let brace : drop (at - 1) text ≡ 0x7d ∷ c.rest = ap (λ n. drop (n - 1) text) (sym q) ∙ k.brace ∙ ap (λ n. 0x7d ∷ drop n text) q ∙ ap (λ l. 0x7d ∷ l) c.place.behind in
+    let brace : drop (at - 1) text ≡ 0x7d ∷ c.rest = k.brace ∙ ap (λ l. 0x7d ∷ l) c.place.behind in
     subst (λ g. Tells text from Is' g not_of_form (at - 1)) (came_to slots name c none e)
     (record { tells = record { told = refl; some = omega arith; place = record { inside = omega (arith, c.place.inside); behind = brace } } })
 
-pub filter_equal : (slots : List Slot) (name : List ℕ) {text scratch : List ℕ} {from at : ℕ} {r : Turn} {Is' : Filter → Type 0} (p : Parts) → from ≤ length text
-    → (c : Came text from (AllGathered slots text scratch r) (object slots (drop from text)) at) (w : WholeFilter slots (length text) scratch p c.part) → p.mismatch ≡ p.on_match
-    → Tells text from Is' (filter slots name (drop from text)) equal_actions from
-filter_equal slots name {text} {from = from} {Is' = Is'} p h c w e =
-    subst (λ g. Tells text from Is' g equal_actions from)
-    (ap (λ b. answered (asked (not b) equal_actions (filter_with name p w.lines)) (drop from text) c.rest) (sym (eq-eqb _ _ e)) ∙ came_to slots name c (some (filter_with name p w.lines)) (w.made name))
-    (record { tells = record { told = refl; some = omega arith; place = record { inside = h; behind = refl } } })
+module _ (slots : List Slot) (name : List ℕ) {text scratch : List ℕ} {from at : ℕ} {p : Parts} {d m n : ℕ} (c : Came text from (AllGathered slots text scratch at p) (object slots (drop from text)) at)
+    (w : WholeFilter slots (length text) scratch d m n c.part) where
+  pub filter_equal : {Is' : Filter → Type 0} → from ≤ length text → d ≡ m → Tells text from Is' (filter slots name (drop from text)) equal_actions from
+  filter_equal {Is'} h e =
+      subst (λ g. Tells text from Is' g equal_actions from)
+      (ap (λ b. answered (asked (not b) equal_actions (filter_with name d m w.lines)) (drop from text) c.rest) (sym (eq-eqb _ _ e)) ∙ came_to slots name c (some (filter_with name d m w.lines)) (w.made name))
+      (record { tells = record { told = refl; some = omega arith; place = record { inside = h; behind = refl } } })
 
-pub filter_read : (slots : List Slot) (name : List ℕ) {text scratch : List ℕ} {from at : ℕ} {r : Turn} (p : Parts)
-    → (c : Came text from (AllGathered slots text scratch r) (object slots (drop from text)) at) (w : WholeFilter slots (length text) scratch p c.part) → (p.mismatch ≡ p.on_match → ⊥)
-    → filter slots name (drop from text) ≡ got (filter_with name p w.lines) c.rest
-filter_read slots name {text} {from = from} p c w e =
-    sym (came_to slots name c (some (filter_with name p w.lines)) (w.made name))
-    ∙ ap (λ b. answered (asked (not b) equal_actions (filter_with name p w.lines)) (drop from text) c.rest) (ne_eqb _ _ e)
+  pub filter_read : (d ≡ m → ⊥) → filter slots name (drop from text) ≡ got (filter_with name d m w.lines) c.rest
+  filter_read e =
+      sym (came_to slots name c (some (filter_with name d m w.lines)) (w.made name))
+      ∙ ap (λ b. answered (asked (not b) equal_actions (filter_with name d m w.lines)) (drop from text) c.rest) (ne_eqb _ _ e)
 
 -- ---- its lines, collected
 
@@ -159,11 +166,11 @@ pub record RawLines (s : List ℕ) (t n at : ℕ) (es : List Entry) : Type 0 whe
   pub raw : Raw s t n at
   pub same : raw.entries ≡ es
 
-pub raw_lines : {text : List ℕ} (table : List ℕ) {before after : List ℕ} {from at place : ℕ} {r : Turn} (p : Parts) → AreBytes table → Lent text table before → Untouched (length text) before after → place ≤ from + 5
-    → (c : Came text from (AllGathered (table_slots table) text after r) (object (table_slots table) (drop from text)) at) (w : WholeFilter (table_slots table) (length text) after p c.part) → (p.mismatch ≡ p.on_match → ⊥)
-    → RawLines after (length text) p.count (place + 16) w.written.entries
-raw_lines {text = text} table {from = from} {at} {place} p bytes l u near c w e =
-    let size = filter_size_lem (judges_of (table_slots table)) (table_slots table) [] (drop from text) (filter_with [] p w.lines) c.rest (filter_read (table_slots table) [] p c w e) w.written.entries w.written.made in
+pub raw_lines : {text : List ℕ} (table : List ℕ) {before after : List ℕ} {from at place : ℕ} {p : Parts} {d m n : ℕ} → AreBytes table → Lent text table before → Untouched (length text) before after → place ≤ from + 5
+    → (c : Came text from (AllGathered (table_slots table) text after at p) (object (table_slots table) (drop from text)) at) (w : WholeFilter (table_slots table) (length text) after d m n c.part) → (d ≡ m → ⊥)
+    → RawLines after (length text) n (place + 16) w.written.entries
+raw_lines {text = text} table {from = from} {at} {place} {d = d} {m} bytes l u near c w e =
+    let size = filter_size_lem (judges_of (table_slots table)) (table_slots table) [] (drop from text) (filter_with [] d m w.lines) c.rest (filter_read (table_slots table) [] c w e) w.written.entries w.written.made in
     record {
       raw = record {
         entries = w.written.entries;
@@ -206,21 +213,21 @@ encoded : (architecture : ℕ) (a : Architecture) → architecture_of architectu
 unfolding set_bytes encode
 encoded architecture a e f es = rw (head_forth architecture a e)
 
-pub filter_written : (name : List ℕ) {text : List ℕ} (table : List ℕ) {before mid after : List ℕ} {architecture from at place end : ℕ} {r : Turn} (p : Parts) (a : Architecture) → architecture_of architecture ≡ some a → place ≤ from + 5
+pub filter_written : (name : List ℕ) {text : List ℕ} (table : List ℕ) {before mid after : List ℕ} {architecture from at place end : ℕ} {p : Parts} {d m n : ℕ} (a : Architecture) → architecture_of architecture ≡ some a → place ≤ from + 5
     → Untouched (length text) before mid
-    → (c : Came text from (AllGathered (table_slots table) text mid r) (object (table_slots table) (drop from text)) at) (w : WholeFilter (table_slots table) (length text) mid p c.part) → (p.mismatch ≡ p.on_match → ⊥)
-    → (raw : Raw mid (length text) p.count (place + 16)) → raw.entries ≡ w.written.entries
-    → Behind place mid after (set_bytes architecture p.mismatch p.on_match (collected now.join raw.entries)) end
+    → (c : Came text from (AllGathered (table_slots table) text mid at p) (object (table_slots table) (drop from text)) at) (w : WholeFilter (table_slots table) (length text) mid d m n c.part) → (d ≡ m → ⊥)
+    → (raw : Raw mid (length text) n (place + 16)) → raw.entries ≡ w.written.entries
+    → Behind place mid after (set_bytes architecture d m (collected now.join raw.entries)) end
     → Tells text from (SetWritten (table_slots table) architecture place before after end at) (filter (table_slots table) name (drop from text)) 0 at
-filter_written name {text} table {before} {mid} {after} {architecture} {from} {at} {place} {end} p a known near u c w e raw same b =
+filter_written name {text} table {before} {mid} {after} {architecture} {from} {at} {place} {end} {d = d} {m} a known near u c w e raw same b =
     let slots : List Slot = table_slots table in
-    let f : Filter = filter_with name p w.lines in
+    let f : Filter = filter_with name d m w.lines in
     let es : List Entry = w.written.entries in
     let rs : RuleSet = set_with a (native_of architecture) f (collected now.join es) in
-    let read : filter slots name (drop from text) ≡ got f c.rest = filter_read slots name p c w e in
+    let read : filter slots name (drop from text) ≡ got f c.rest = filter_read slots name c w e in
     let size = filter_size_lem (judges_of slots) slots name (drop from text) f c.rest read es w.written.made in
-    let bytes : set_bytes architecture p.mismatch p.on_match (collected now.join raw.entries) ≡ encode rs =
-    ap (λ x. set_bytes architecture p.mismatch p.on_match (collected now.join x)) same ∙ encoded architecture a known f (collected now.join es) in
+    let bytes : set_bytes architecture d m (collected now.join raw.entries) ≡ encode rs =
+    ap (λ x. set_bytes architecture d m (collected now.join x)) same ∙ encoded architecture a known f (collected now.join es) in
     let front : take place mid ≡ take place before =
     sym (take-take place (length text) mid (omega (arith, raw.room))) ∙ ap (take place) u.front ∙ take-take place (length text) before (omega (arith, raw.room)) in
     let spot : end ≡ place + length (encode rs) = b.spot ∙ ap (λ x. place + length x) bytes in
@@ -235,7 +242,7 @@ filter_written name {text} table {before} {mid} {after} {architecture} {from} {a
           named = known;
           set = rs;
           made = set_made slots a (native_of architecture) f es (filter_ok slots name (drop from text) f c.rest read) w.written.made;
-          behind = record { spot = spot; written = b.written ∙ ap (λ x. x ++ set_bytes architecture p.mismatch p.on_match (collected now.join raw.entries)) front ∙ ap (λ x. take place before ++ x) bytes; whole = b.whole ∙ u.whole };
+          behind = record { spot = spot; written = b.written ∙ ap (λ x. x ++ set_bytes architecture d m (collected now.join raw.entries)) front ∙ ap (λ x. take place before ++ x) bytes; whole = b.whole ∙ u.whole };
           short = omega (arith, spot, length_set rs, collected_shorter es, size, near, length-drop from text, ap length c.place.behind, length-drop at text, c.place.inside, c.on);
         };
       };

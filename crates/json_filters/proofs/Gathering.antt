@@ -3,6 +3,8 @@ use mathlib.Core.Path.{◌≡◌, refl, ap, sym, ◌∙◌}
 use mathlib.Core.Bool.{Bool, true, false, cond, ◌||◌}
 use mathlib.Core.List.{List, [], ◌∷◌, ◌++◌, append-nil}
 use mathlib.Core.Option.{Option, none, some}
+use Rattle.std.specs.Prelude.{None, Some, is_some, Result, Ok, IsErrAnd}
+use Rattle.std.specs.Prelude as given
 use Prim.Native.Nat.{ℕ, zero, suc, ◌+◌, ◌-◌, ◌≤◌}
 use native.Mathlib.Omega.{arith}
 use lib.Dec.{eqb}
@@ -12,16 +14,20 @@ use Rattle.definitions.specs.Json.{quote}
 use Rattle.definitions.specs.JsonForm.{field_of, filter_keys, Line}
 use Rattle.definitions.specs.Format.{is_there, joined, encode_entry}
 use Rattle.definitions.specs.JsonReader.{Got, got, stop, follow, not_json, first, string_at, placed, bad_character}
-use Rattle.definitions.specs.FormReader.{Typed, typed, has_typed, value_of, FilterPart, the_action, the_lines, or_stop, action_there, line_there, list_there, judges_of}
+use Rattle.definitions.specs.FormReader.{Typed, has_typed, value_of, FilterPart, the_action, the_lines, or_stop, action_there, line_there, list_there, judges_of}
 use Rattle.definitions.specs.CallNames.{Slot}
 use Rattle.json_theorems.proofs.Tests.{false_not_true}
 use Rattle.json_theorems.proofs.Faith.{stopped}
 use Rattle.json_theorems.proofs.Form.{keys_below_lem}
 use Rattle.json_theorems.specs.Turns.{field_there}
 use Rattle.json_scan.specs.Scan.{Tells}
+use Rattle.json_scan.specs.Telling.{code_of}
+use Rattle.json_scan.specs.declared.Misread.{Misread}
+use Rattle.json_scan.specs.declared.Read.{Read}
 use Rattle.json_scan.proofs.Telling.{came, made_into, told_inside}
-use Rattle.json_lines.specs.declared.LinesRead.{LinesRead}
+use Rattle.json_lines.specs.declared.Lines.{Lines}
 use Rattle.json_lines.specs.Lines.{Entries}
+use Rattle.json_lines.proofs.Steps.{handed, no_value}
 use Rattle.json_filters.specs.declared.Parts.{Parts}
 use Rattle.json_filters.specs.Filters.{table_slots, Untouched, ActionHeld, LinesWritten, LinesHeld, is_given, Gathered, GathersOn}
 
@@ -62,101 +68,99 @@ not_held {A = A} f ts h = go (value_of f ts) (sym (has_value f ts) ∙ h)
 
 -- ---- what the code knows of them
 
-action_given : (o : Option FilterPart) (g : Bool) (v : ℕ) → ActionHeld o g v → is_there o ≡ g
-action_given none g v h = sym h
-action_given (some (the_action a)) g v h = sym h.0
-action_given (some (the_lines ls)) g v h = absurd h
+action_given : (o : Option FilterPart) (v : given.Option ℕ) → ActionHeld o v → is_there o ≡ is_some v
+action_given none v h = rw h
+action_given (some (the_action a)) v h = rw h
+action_given (some (the_lines ls)) v h = absurd h
 
-lines_given_lem : (slots : List Slot) (t : ℕ) (s : List ℕ) (o : Option FilterPart) (g : Bool) (n : ℕ) → LinesHeld slots t s o g n → is_there o ≡ g
-lines_given_lem slots t s none g n h = sym h
-lines_given_lem slots t s (some (the_action a)) g n h = absurd h
-lines_given_lem slots t s (some (the_lines ls)) g n h = sym h.0
+lines_given_lem : (slots : List Slot) (t : ℕ) (s : List ℕ) (o : Option FilterPart) (n : given.Option ℕ) → LinesHeld slots t s o n → is_there o ≡ is_some n
+lines_given_lem slots t s none n h = rw h
+lines_given_lem slots t s (some (the_action a)) n h = absurd h
+lines_given_lem slots t s (some (the_lines ls)) None h = absurd h
+lines_given_lem slots t s (some (the_lines ls)) (Some n) h = refl
 
 pub given_is : {slots : List Slot} {t : ℕ} {s : List ℕ} {p : Parts} {ts : List (Typed FilterPart)} → Gathered slots t s p ts → (f : ℕ) → f ≤ 2 → has_typed f ts ≡ is_given p f
 unfolding is_given
-given_is {ts = ts} g zero h = has_value 0 ts ∙ action_given (value_of 0 ts) _ _ g.mismatch
-given_is {ts = ts} g (suc zero) h = has_value 1 ts ∙ action_given (value_of 1 ts) _ _ g.on_match
-given_is {slots = slots} {t} {s} {ts = ts} g (suc (suc zero)) h = has_value 2 ts ∙ lines_given_lem slots t s (value_of 2 ts) _ _ g.lines
+given_is {ts = ts} g zero h = has_value 0 ts ∙ action_given (value_of 0 ts) _ g.mismatch
+given_is {ts = ts} g (suc zero) h = has_value 1 ts ∙ action_given (value_of 1 ts) _ g.on_match
+given_is {slots = slots} {t} {s} {ts = ts} g (suc (suc zero)) h = has_value 2 ts ∙ lines_given_lem slots t s (value_of 2 ts) _ g.lines
 given_is g (suc (suc (suc f))) h = absurd (omega arith)
 
 -- nothing is gathered of no fields
-pub gathered_none : (slots : List Slot) (t : ℕ) (s : List ℕ) {p : Parts}
-    → p ≡ record { mismatch_given = false; match_given = false; lines_given = false; mismatch = 0; on_match = 0; count = 0 } → Gathered slots t s p []
-gathered_none slots t s e = rw e (record { mismatch = refl; on_match = refl; lines = refl })
-
--- ---- a field more
-
-pub mismatch_more : {slots : List Slot} {t : ℕ} {s : List ℕ} {p : Parts} {ts : List (Typed FilterPart)} {q : Parts} {a : ℕ} (v : ℕ) → Gathered slots t s p ts → v ≡ a
-    → q ≡ record { mismatch_given = true; match_given = p.match_given; lines_given = p.lines_given; mismatch = v; on_match = p.on_match; count = p.count }
-    → Gathered slots t s q (typed 0 (the_action a) ∷ ts)
-mismatch_more v g e w = rw w (record { mismatch = (refl, e); on_match = g.on_match; lines = g.lines })
-
-pub match_more : {slots : List Slot} {t : ℕ} {s : List ℕ} {p : Parts} {ts : List (Typed FilterPart)} {q : Parts} {a : ℕ} (v : ℕ) → Gathered slots t s p ts → v ≡ a
-    → q ≡ record { mismatch_given = p.mismatch_given; match_given = true; lines_given = p.lines_given; mismatch = p.mismatch; on_match = v; count = p.count }
-    → Gathered slots t s q (typed 1 (the_action a) ∷ ts)
-match_more v g e w = rw w (record { mismatch = g.mismatch; on_match = (refl, e); lines = g.lines })
-
-pub lines_more : {slots : List Slot} {t : ℕ} {s s' : List ℕ} {p : Parts} {ts : List (Typed FilterPart)} {q : Parts} {ls : List Line} (n : ℕ) → Gathered slots t s p ts → LinesWritten slots t s' n ls
-    → q ≡ record { mismatch_given = p.mismatch_given; match_given = p.match_given; lines_given = true; mismatch = p.mismatch; on_match = p.on_match; count = n }
-    → Gathered slots t s' q (typed 2 (the_lines ls) ∷ ts)
-lines_more n g e w = rw w (record { mismatch = g.mismatch; on_match = g.on_match; lines = (refl, e) })
+pub gathered_none : (slots : List Slot) (t : ℕ) (s : List ℕ) → Gathered slots t s (record { mismatch = None; on_match = None; lines = None }) []
+gathered_none slots t s = record { mismatch = refl; on_match = refl; lines = refl }
 
 -- ---- the value of a field
 
 pub itself : (l : List ℕ) → l ≡ l
 itself l = refl
 
-lines_stand : {slots : List Slot} (before : List ℕ) {after raw : List ℕ} (t k : ℕ) {lr : LinesRead} {ls : List Line} → after ≡ take t before ++ (raw ++ drop k (drop t before))
-    → t ≤ length before → t + k ≡ length before → Entries slots raw lr ls → LinesWritten slots t after lr.count ls
+lines_stand : {slots : List Slot} (before : List ℕ) {after raw : List ℕ} (t k : ℕ) {r : Lines} {ls : List Line} → after ≡ take t before ++ (raw ++ drop k (drop t before))
+    → t ≤ length before → t + k ≡ length before → Entries slots raw r ls → LinesWritten slots t after r.count ls
 lines_stand before {after} {raw} t k e room all h =
     let nothing : drop k (drop t before) ≡ [] = drop_of_length-le (drop t before) {i = k} (omega (arith, length-drop t before)) in
     let there : drop t after ≡ raw = ap (drop t) e ∙ drop_at (take t before) (raw ++ drop k (drop t before)) t (length-take-le t before room) ∙ ap (λ x. raw ++ x) nothing ∙ append-nil raw in
     record { entries = h.entries; made = h.made; written = ap (take (length (joined encode_entry h.entries))) there ∙ ap (λ n. take n raw) (sym h.end) ∙ h.written; many = h.count }
 
-pub lines_value : {text table before after raw : List ℕ} {at field : ℕ} {p q : Parts} {lr : LinesRead} → field ≡ 2
-    → Tells text at (Entries (table_slots table) raw lr) (list_there (line_there (judges_of (table_slots table))) (drop at text)) lr.code lr.at
-    → q ≡ record { mismatch_given = p.mismatch_given; match_given = p.match_given; lines_given = true; mismatch = p.mismatch; on_match = p.on_match; count = lr.count }
-    → length raw ≡ length (take (length before - length text) (drop (length text) before)) → length text ≤ length before
-    → after ≡ take (length text) before ++ (raw ++ drop (length before - length text) (drop (length text) before))
-    → GathersOn text at table before after field p (record { code = lr.code; at = lr.at; more = true; parts = q }) × Untouched (length text) before after
-lines_value {text = text} {before = before} {after} {raw} {lr = lr} f t w long room e =
-    let k : ℕ = length before - length text in
-    let all : length text + k ≡ length before = omega arith in
-    let long' : length raw ≡ k = long ∙ length-take-le k (drop (length text) before) (omega (arith, length-drop (length text) before)) in
-    rw f (
-      record { on = λ ts g h. made_into (λ ls. the_lines ls) t (λ ls s. lines_more lr.count g (lines_stand before (length text) k e room all s) w); inside = told_inside t },
-      record {
-        front = ap (take (length text)) e ∙ take_at (take (length text) before) _ (length text) (length-take-le (length text) before room);
-        whole =
-            omega (
-              arith,
-              ap length e,
-              length-append (take (length text) before) (raw ++ drop k (drop (length text) before)),
-              length-append raw (drop k (drop (length text) before)),
-              length-take-le (length text) before room,
-              length-drop k (drop (length text) before),
-              length-drop (length text) before,
-              long',
-              all,
-              room,
-            );
-      },
-    )
-
 pub untouched : (t : ℕ) (s : List ℕ) → Untouched t s s
 untouched t s = record { front = refl; whole = refl }
 
-pub mismatch_value : {text table before : List ℕ} {at field : ℕ} {p q : Parts} {code at' v : ℕ} → field ≡ 0
-    → Tells text at (λ a. v ≡ a) (action_there (drop at text)) code at'
-    → q ≡ record { mismatch_given = true; match_given = p.match_given; lines_given = p.lines_given; mismatch = v; on_match = p.on_match; count = p.count }
-    → GathersOn text at table before before field p (record { code = code; at = at'; more = true; parts = q })
-mismatch_value {v = v} e t w = rw e (record { on = λ ts g h. made_into (λ a. the_action a) t (λ a s. mismatch_more v g s w); inside = told_inside t })
+-- what the lines write stays behind the first part
+pub front_kept : {before after : List ℕ} (raw : List ℕ) (t : ℕ) → length raw ≡ length (take (length before - t) (drop t before)) → t ≤ length before
+    → after ≡ take t before ++ (raw ++ drop (length before - t) (drop t before)) → Untouched t before after
+front_kept {before} {after} raw t long room e =
+    let k : ℕ = length before - t in
+    let all : t + k ≡ length before = omega arith in
+    let long' : length raw ≡ k = long ∙ length-take-le k (drop t before) (omega (arith, length-drop t before)) in
+    record {
+      front = ap (take t) e ∙ take_at (take t before) _ t (length-take-le t before room);
+      whole =
+          omega (
+            arith,
+            ap length e,
+            length-append (take t before) (raw ++ drop k (drop t before)),
+            length-append raw (drop k (drop t before)),
+            length-take-le t before room,
+            length-drop k (drop t before),
+            length-drop t before,
+            long',
+            all,
+            room,
+          );
+    }
 
-pub match_value : {text table before : List ℕ} {at field : ℕ} {p q : Parts} {code at' v : ℕ} → field ≡ 1
-    → Tells text at (λ a. v ≡ a) (action_there (drop at text)) code at'
-    → q ≡ record { mismatch_given = p.mismatch_given; match_given = true; lines_given = p.lines_given; mismatch = p.mismatch; on_match = v; count = p.count }
-    → GathersOn text at table before before field p (record { code = code; at = at'; more = true; parts = q })
-match_value {v = v} e t w = rw e (record { on = λ ts g h. made_into (λ a. the_action a) t (λ a s. match_more v g s w); inside = told_inside t })
+module _ {text table : List ℕ} {at field : ℕ} {p : Parts} where
+  pub lines_value : {before after raw : List ℕ} {past : ℕ} {r : Lines} → field ≡ 2
+      → Tells text at (Entries (table_slots table) raw r) (list_there (line_there (judges_of (table_slots table))) (drop at text)) 0 past → length text ≤ length before
+      → after ≡ take (length text) before ++ (raw ++ drop (length before - length text) (drop (length text) before))
+      → GathersOn text at table before after field p (Ok (record { at = past; value = record { mismatch = p.mismatch; on_match = p.on_match; lines = Some r.count } }))
+  lines_value {before} f t room e =
+      let all : length text + (length before - length text) ≡ length before = omega arith in
+      rw f (record {
+        on = λ ts g h. made_into (λ ls. the_lines ls) t (λ ls s. record { mismatch = g.mismatch; on_match = g.on_match; lines = lines_stand before (length text) (length before - length text) e room all s });
+        inside = told_inside t;
+      })
+
+  pub mismatch_value : {before : List ℕ} {past v : ℕ} → field ≡ 0 → Tells text at (λ a. v ≡ a) (action_there (drop at text)) 0 past
+      → GathersOn text at table before before field p (Ok (record { at = past; value = record { mismatch = Some v; on_match = p.on_match; lines = p.lines } }))
+  mismatch_value e t = rw e (record { on = λ ts g h. made_into (λ a. the_action a) t (λ a s. record { mismatch = ap (λ x. Some x) s; on_match = g.on_match; lines = g.lines }); inside = told_inside t })
+
+  pub match_value : {before : List ℕ} {past v : ℕ} → field ≡ 1 → Tells text at (λ a. v ≡ a) (action_there (drop at text)) 0 past
+      → GathersOn text at table before before field p (Ok (record { at = past; value = record { mismatch = p.mismatch; on_match = Some v; lines = p.lines } }))
+  match_value e t = rw e (record { on = λ ts g h. made_into (λ a. the_action a) t (λ a s. record { mismatch = g.mismatch; on_match = ap (λ x. Some x) s; lines = g.lines }); inside = told_inside t })
+
+  -- a value that was not read
+  pub lines_stop : {before after : List ℕ} {r : Result (Read Parts) Misread} (e : Misread) {Is : List Line → Type 0} → field ≡ 2 → IsErrAnd r (λ y. y ≡ e)
+      → Tells text at Is (list_there (line_there (judges_of (table_slots table))) (drop at text)) (code_of e.why) e.at → GathersOn text at table before after field p r
+  lines_stop e f i t = let u = handed _ _ i t in rw f (record { on = λ ts g h. made_into (λ ls. the_lines ls) u (λ ls s. no_value _ _ _ i); inside = told_inside u })
+
+  pub mismatch_stop : {before : List ℕ} {r : Result (Read Parts) Misread} (e : Misread) {Is : ℕ → Type 0} → field ≡ 0 → IsErrAnd r (λ y. y ≡ e)
+      → Tells text at Is (action_there (drop at text)) (code_of e.why) e.at → GathersOn text at table before before field p r
+  mismatch_stop e f i t = let u = handed _ _ i t in rw f (record { on = λ ts g h. made_into (λ a. the_action a) u (λ a s. no_value _ _ _ i); inside = told_inside u })
+
+  pub match_stop : {before : List ℕ} {r : Result (Read Parts) Misread} (e : Misread) {Is : ℕ → Type 0} → field ≡ 1 → IsErrAnd r (λ y. y ≡ e)
+      → Tells text at Is (action_there (drop at text)) (code_of e.why) e.at → GathersOn text at table before before field p r
+  match_stop e f i t = let u = handed _ _ i t in rw f (record { on = λ ts g h. made_into (λ a. the_action a) u (λ a s. no_value _ _ _ i); inside = told_inside u })
 
 -- ---- a turn
 

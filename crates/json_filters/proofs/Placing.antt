@@ -18,13 +18,6 @@ pub take_place : (l : List ℕ) (at n : ℕ) (bs : List ℕ) → at + length bs 
 unfolding place
 take_place l at n bs e h = take_at (take at l ++ bs) (drop (at + length bs) l) n (length-append (take at l) bs ∙ ap (λ k. k + length bs) (length-take-le at l h) ∙ e)
 
-pub front_place : (l : List ℕ) (at n : ℕ) (bs : List ℕ) → n ≤ at → at ≤ length l → take n (place l at bs) ≡ take n l
-unfolding place
-front_place l at n bs h k =
-    let long : n ≤ length (take at l ++ bs) = omega (arith, length-append (take at l) bs, length-take-le at l k) in
-    let long' : n ≤ length (take at l) = omega (arith, length-take-le at l k) in
-    take-append-le n (take at l ++ bs) (drop (at + length bs) l) long ∙ take-append-le n (take at l) bs long' ∙ take-take n at l h
-
 -- what stands at a place of a front
 pub part_of : (l a b : List ℕ) (m n : ℕ) → take (m + n) l ≡ a ++ b → length a ≡ m → take n (drop m l) ≡ b
 part_of l a b m n e h =

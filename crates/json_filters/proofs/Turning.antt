@@ -3,6 +3,7 @@ use mathlib.Core.Path.{◌≡◌, refl, ap, sym, subst, ◌∙◌}
 use mathlib.Core.Bool.{Bool, true, false, cond}
 use mathlib.Core.List.{List, [], ◌∷◌}
 use Prim.Native.Nat.{ℕ, zero, suc, ◌+◌, ◌-◌, ◌≤◌, ◌<◌}
+use Rattle.std.specs.Prelude.{None}
 use native.Mathlib.Omega.{arith}
 use native.Mathlib.Numerals.{add-one}
 use lib.Dec.{eqb, leb}
@@ -10,15 +11,16 @@ use lib.ListN.{length, drop, get_or, length-drop, drop_of_length-le, get_or-eq_d
 use lib.Seq.{drop-cons, get_or-drop}
 use borrow.Author.Tests.{ne_eqb, leb-true, leb-false}
 use Rattle.definitions.specs.CallNames.{Slot}
-use Rattle.definitions.specs.JsonForm.{filter_keys}
+use Rattle.definitions.specs.JsonForm.{Key, filter_keys}
 use Rattle.definitions.specs.JsonReader.{Got, got, stop, follow, not_json, first, blanks, fields}
 use Rattle.definitions.specs.FormReader.{Typed, FilterPart, filter_reads, object_there, judges_of}
-use Rattle.json_theorems.specs.Turns.{open_there, more_there, Turned, field_turn}
+use Rattle.json_theorems.specs.Turns.{open_there, more_there, Turned, turned_there, field_turn}
 use Rattle.json_theorems.proofs.Turns.{key_judge, key_step, field_turns, turns_on, field_turns_lem, nothing_turns, object_begins}
 use Rattle.json_theorems.proofs.Tests.{false_not_true}
 use Rattle.json_theorems.proofs.Sizes.{blanks_size}
 use Rattle.json_scan.specs.Scan.{At, Tells}
 use Rattle.json_scan.proofs.Telling.{Came, came, handed_on, told_earlier}
+use Rattle.json_scan.proofs.Fields.{ColonCame}
 use Rattle.json_condition.proofs.Gathering.{bracket_before}
 use Rattle.json_filters.specs.declared.Parts.{Parts}
 use Rattle.json_filters.specs.declared.Turn.{Turn}
@@ -26,12 +28,20 @@ use Rattle.json_filters.specs.Filters.{Lent, Untouched, Gathered, Closed, TurnHe
 use Rattle.json_filters.proofs.Gathering.{gathered_none}
 
 -- the brace behind the last value
-pub closed_behind : {text : List ℕ} {place code at : ℕ} {more : Bool} → Tells text place (λ b. more ≡ b) (more_there 0x7d (drop place text)) code at → code ≡ 0 → more ≡ false → Closed text at
-closed_behind {text = text} {place} {at = at} t e f =
-    let c = came t e in
+pub closed_behind : {text : List ℕ} {place at : ℕ} {more : Bool} → Tells text place (λ b. more ≡ b) (more_there 0x7d (drop place text)) 0 at → more ≡ false → Closed text at
+closed_behind {text = text} {place} {at = at} t f =
+    let c = came t refl in
     let last : more_there 0x7d (drop place text) ≡ got false (drop at text) =
     c.got_it ∙ ap (λ b. got b c.rest) (sym c.value ∙ f) ∙ ap (λ l. got false l) (sym c.place.behind) in
     record { some = omega (arith, c.on); inside = c.place.inside; brace = bracket_before 0x7d text place at (omega arith) c.place.inside last }
+
+-- neither a comma nor the brace stands behind a value
+pub more_stops : {A : Type 0} {keys : List Key} (reads : ℕ → List ℕ → Got A) {ts : List (Typed A)} {text : List ℕ} {at field behind place code' place' : ℕ} {Is : A → Type 0} {Is₀ : Bool → Type 0} {Is' : Turned (List (Typed A)) → Type 0}
+    → ColonCame keys ts text at field behind → Tells text behind Is (reads field (drop behind text)) 0 place
+    → Tells text place Is₀ (more_there 0x7d (drop place text)) code' place' → (code' ≡ 0 → ⊥)
+    → Tells text at Is' (field_turn keys reads ts (drop at text)) code' place'
+unfolding field_turn turned_there
+more_stops reads k t m h = let c = came t refl in rw (k.key, k.new, k.colon, c.got_it, ← c.place.behind) (handed_on _ m h)
 
 -- ---- what is lent stays
 
@@ -68,12 +78,12 @@ pub record Turning (slots : List Slot) (text : List ℕ) (from : ℕ) (scratch :
   pub closed : more ≡ false → Closed text next
   pub passed : more ≡ false → from < next
 
-pub turning_begins : (slots : List Slot) (text : List ℕ) (from : ℕ) (scratch : List ℕ) {p : Parts} → from ≤ length text
-    → p ≡ record { mismatch_given = false; match_given = false; lines_given = false; mismatch = 0; on_match = 0; count = 0 } → Turning slots text from scratch p from true
-turning_begins slots text from scratch h e = record {
+pub turning_begins : (slots : List Slot) (text : List ℕ) (from : ℕ) (scratch : List ℕ) → from ≤ length text
+    → Turning slots text from scratch (record { mismatch = None; on_match = None; lines = None }) from true
+turning_begins slots text from scratch h = record {
   ts = [];
   fuel = length (drop from text);
-  gathered = gathered_none slots (length text) scratch e;
+  gathered = gathered_none slots (length text) scratch;
   enough = omega (arith, length-drop from text);
   inside = h;
   on = omega arith;
@@ -102,14 +112,14 @@ turning_stops {slots = slots} {text} {from} {next = next} {code} {at} {Is = Is} 
     go (suc n) e q =
         subst (λ g. Tells text from Is' g code at) (sym (field_turns_lem filter_keys (filter_reads (judges_of slots)) n t.ts (drop next text)) ∙ q) (handed_on _ s h)
 
-pub turning_goes : {slots : List Slot} {text : List ℕ} {from : ℕ} {scratch scratch' : List ℕ} {p : Parts} {next : ℕ} {more : Bool} (r : Turn) (t : Turning slots text from scratch p next more) → more ≡ true
-    → Tells text next (λ u. (r.more ≡ u.more) × TurnHeld slots text scratch' r u.gathered) (turn slots t.ts (drop next text)) r.code r.at → r.code ≡ 0
-    → Turning slots text from scratch' r.parts r.at r.more
-turning_goes {slots = slots} {text} {from} {scratch' = scratch'} {next = next} r t m s e = go t.fuel t.enough (left t m) (came s e)
+pub turning_goes : {slots : List Slot} {text : List ℕ} {from : ℕ} {scratch scratch' : List ℕ} {p : Parts} {next past : ℕ} {more : Bool} (r : Turn) (t : Turning slots text from scratch p next more) → more ≡ true
+    → Tells text next (λ u. (r.more ≡ u.more) × TurnHeld slots text scratch' past r u.gathered) (turn slots t.ts (drop next text)) 0 past
+    → Turning slots text from scratch' r.parts past r.more
+turning_goes {slots = slots} {text} {from} {scratch' = scratch'} {next = next} {past} r t m s = go t.fuel t.enough (left t m) (came s refl)
   where
     go : (n : ℕ) → length text ≤ next + n → turns slots n t.ts (drop next text) ≡ whole slots text from
-        → Came text next (λ (u : Turned (List (Typed FilterPart))). (r.more ≡ u.more) × TurnHeld slots text scratch' r u.gathered) (turn slots t.ts (drop next text)) r.at
-        → Turning slots text from scratch' r.parts r.at r.more
+        → Came text next (λ (u : Turned (List (Typed FilterPart))). (r.more ≡ u.more) × TurnHeld slots text scratch' past r u.gathered) (turn slots t.ts (drop next text)) past
+        → Turning slots text from scratch' r.parts past r.more
     go zero enough q k = absurd (omega (arith, k.on, k.place.inside))
     go (suc n) enough q k =
         let us : List (Typed FilterPart) = k.part.gathered in
@@ -122,15 +132,15 @@ turning_goes {slots = slots} {text} {from} {scratch' = scratch'} {next = next} r
           enough = omega (arith, k.on);
           inside = k.place.inside;
           on = omega (arith, k.on, t.on);
-          same = ap (λ b. cond b (turns slots n us (drop r.at text)) (got us (drop r.at text))) k.value.0 ∙ ap (λ l. cond k.part.more (turns slots n us l) (got us l)) k.place.behind ∙ sym one ∙ q;
-          closed = k.value.1.closed e;
+          same = ap (λ b. cond b (turns slots n us (drop past text)) (got us (drop past text))) k.value.0 ∙ ap (λ l. cond k.part.more (turns slots n us l) (got us l)) k.place.behind ∙ sym one ∙ q;
+          closed = k.value.1.closed;
           passed = λ f. omega (arith, k.on, t.on);
         }
 
 pub turning_ends : {slots : List Slot} {text : List ℕ} {from : ℕ} {scratch : List ℕ} {p : Parts} {next : ℕ} {more : Bool} → Turning slots text from scratch p next more → more ≡ false
-    → Tells text from (AllGathered slots text scratch (record { code = 0; at = next; more = false; parts = p })) (whole slots text from) 0 next
+    → Tells text from (AllGathered slots text scratch next p) (whole slots text from) 0 next
 turning_ends {slots = slots} {text} {from} {scratch} {p} {next} t m =
-    subst (λ g. Tells text from (AllGathered slots text scratch (record { code = 0; at = next; more = false; parts = p })) g 0 next)
+    subst (λ g. Tells text from (AllGathered slots text scratch next p) g 0 next)
     (ap (λ b. cond b (turns slots t.fuel t.ts (drop next text)) (got t.ts (drop next text))) (sym m) ∙ t.same)
     (record { tells = record { fine = refl; on = t.passed m; place = record { inside = t.inside; behind = refl }; value = record { gathered = t.gathered; closed = t.closed m } } })
 
@@ -162,11 +172,10 @@ there text at e = go (leb (suc at) (length text)) refl
 byte_first : (text : List ℕ) (n : ℕ) → first (drop n text) ≡ get_or text n 0
 byte_first text n = get_or-drop n text 0 0 ∙ ap (λ i. get_or text i 0) (let z : n + 0 ≡ n = omega arith in z)
 
-pub object_empty : (slots : List Slot) (scratch : List ℕ) {text : List ℕ} {from code at start : ℕ} {Is : ℕ → Type 0} {p : Parts} → Tells text from Is (open_there 0x7b (drop from text)) code at → code ≡ 0
+pub object_empty : (slots : List Slot) (scratch : List ℕ) {text : List ℕ} {from code at start : ℕ} {Is : ℕ → Type 0} → Tells text from Is (open_there 0x7b (drop from text)) code at → code ≡ 0
     → At text (blanks (drop at text)) start → get_or text start 0 ≡ 0x7d
-    → p ≡ record { mismatch_given = false; match_given = false; lines_given = false; mismatch = 0; on_match = 0; count = 0 }
-    → Tells text from (AllGathered slots text scratch (record { code = 0; at = start + 1; more = false; parts = p })) (object slots (drop from text)) 0 (start + 1)
-object_empty slots scratch {text} {from} {at = at} {start} {p = p} t e s b q =
+    → Tells text from (AllGathered slots text scratch (start + 1) (record { mismatch = None; on_match = None; lines = None })) (object slots (drop from text)) 0 (start + 1)
+object_empty slots scratch {text} {from} {at = at} {start} t e s b =
     let c = came t e in
     let inside = there text start b in
     let here : drop start text ≡ 0x7d ∷ drop (start + 1) text = drop-cons text start 0 inside ∙ rw (b, add-one) in
@@ -174,13 +183,13 @@ object_empty slots scratch {text} {from} {at = at} {start} {p = p} t e s b q =
     let less : start + 1 - 1 ≡ start = omega arith in
     let is : got [] (drop (start + 1) text) ≡ object slots (drop from text) =
     sym (opened slots c ∙ ap (λ l. cond (eqb (first l) 0x7d) (got [] (drop 1 l)) (turns slots (length (drop at text)) [] (drop at text))) (sym s.behind ∙ here)) in
-    subst (λ g. Tells text from (AllGathered slots text scratch (record { code = 0; at = start + 1; more = false; parts = p })) g 0 (start + 1)) is
+    subst (λ g. Tells text from (AllGathered slots text scratch (start + 1) (record { mismatch = None; on_match = None; lines = None })) g 0 (start + 1)) is
     (record {
       tells = record {
         fine = refl;
         on = omega (arith, c.on, on);
         place = record { inside = omega arith; behind = refl };
-        value = record { gathered = gathered_none slots (length text) scratch q; closed = record { some = omega arith; inside = omega arith; brace = ap (λ n. drop n text) less ∙ here } };
+        value = record { gathered = gathered_none slots (length text) scratch; closed = record { some = omega arith; inside = omega arith; brace = ap (λ n. drop n text) less ∙ here } };
       };
     })
 

@@ -1,5 +1,6 @@
 -- Filters that are written as sets while they are read. Needs no belief.
-use Rattle.std.specs.Prelude.{ℕ, ◌+◌, ◌-◌, ◌*◌, ◌≤◌, ◌≡◌, Bool, true, false, cond, eqb, List, ◌∷◌, ◌++◌, length, take, drop}
+use Rattle.std.specs.Prelude.{ℕ, ◌+◌, ◌-◌, ◌*◌, ◌≤◌, ◌≡◌, Bool, false, cond, eqb, List, ◌∷◌, ◌++◌, length, take, drop, None, Some, is_some, IsSomeAnd, Result}
+use Rattle.std.specs.Prelude as given
 use Rattle.std.proofs.Math.Option.{Option, none, some}
 use Rattle.definitions.specs.Word.{bytes_of}
 use Rattle.definitions.specs.RuleSet.{Architecture, Entry, RuleSet}
@@ -9,7 +10,9 @@ use Rattle.definitions.specs.JsonForm.{Line, Filter}
 use Rattle.definitions.specs.FormReader.{Typed, typed, value_of, FilterPart, the_action, the_lines, filter_reads, judges_of}
 use Rattle.definitions.specs.Collected.{now, numbered, set_of}
 use Rattle.call_names.specs.Slots.{Good}
-use Rattle.json_scan.specs.Scan.{Tells}
+use Rattle.json_scan.specs.Telling.{place_in, Reads}
+use Rattle.json_scan.specs.declared.Misread.{Misread}
+use Rattle.json_scan.specs.declared.Read.{Read}
 use Rattle.json_filters.specs.declared.Parts.{Parts}
 use Rattle.json_filters.specs.declared.Turn.{Turn}
 
@@ -36,10 +39,10 @@ pub record Untouched (t : ℕ) (before after : List ℕ) : Type 0 where
 -- ---- what is gathered of a filter
 
 -- an action's field
-abbrev pub ActionHeld : Option FilterPart → Bool → ℕ → Type 0
-ActionHeld none given value = given ≡ false
-ActionHeld (some (the_action a)) given value = (given ≡ true) × (value ≡ a)
-ActionHeld (some (the_lines ls)) given value = ⊥
+abbrev pub ActionHeld : Option FilterPart → given.Option ℕ → Type 0
+ActionHeld none value = value ≡ None
+ActionHeld (some (the_action a)) value = value ≡ Some a
+ActionHeld (some (the_lines ls)) value = ⊥
 
 -- the entries of lines, in the second third of scratch
 pub record LinesWritten (slots : List Slot) (t : ℕ) (scratch : List ℕ) (count : ℕ) (ls : List Line) : Type 0 where
@@ -48,19 +51,19 @@ pub record LinesWritten (slots : List Slot) (t : ℕ) (scratch : List ℕ) (coun
   pub written : take (length (joined encode_entry entries)) (drop t scratch) ≡ joined encode_entry entries
   pub many : count ≡ length entries
 
-abbrev pub LinesHeld : List Slot → ℕ → List ℕ → Option FilterPart → Bool → ℕ → Type 0
-LinesHeld slots t scratch none given count = given ≡ false
-LinesHeld slots t scratch (some (the_action a)) given count = ⊥
-LinesHeld slots t scratch (some (the_lines ls)) given count = (given ≡ true) × LinesWritten slots t scratch count ls
+abbrev pub LinesHeld : List Slot → ℕ → List ℕ → Option FilterPart → given.Option ℕ → Type 0
+LinesHeld slots t scratch none lines = lines ≡ None
+LinesHeld slots t scratch (some (the_action a)) lines = ⊥
+LinesHeld slots t scratch (some (the_lines ls)) lines = IsSomeAnd lines (λ count. LinesWritten slots t scratch count ls)
 
 pub record Gathered (slots : List Slot) (t : ℕ) (scratch : List ℕ) (p : Parts) (ts : List (Typed FilterPart)) : Type 0 where
-  pub mismatch : ActionHeld (value_of 0 ts) p.mismatch_given p.mismatch
-  pub on_match : ActionHeld (value_of 1 ts) p.match_given p.on_match
-  pub lines : LinesHeld slots t scratch (value_of 2 ts) p.lines_given p.count
+  pub mismatch : ActionHeld (value_of 0 ts) p.mismatch
+  pub on_match : ActionHeld (value_of 1 ts) p.on_match
+  pub lines : LinesHeld slots t scratch (value_of 2 ts) p.lines
 
 -- whether a field was given
 unfoldable pub is_given : Parts → ℕ → Bool
-is_given p f = cond (eqb f 0) p.mismatch_given (cond (eqb f 1) p.match_given p.lines_given)
+is_given p f = cond (eqb f 0) (is_some p.mismatch) (cond (eqb f 1) (is_some p.on_match) (is_some p.lines))
 
 -- a place behind the brace that ends an object
 pub record Closed (text : List ℕ) (at : ℕ) : Type 0 where
@@ -68,22 +71,22 @@ pub record Closed (text : List ℕ) (at : ℕ) : Type 0 where
   pub inside : at ≤ length text
   pub brace : drop (at - 1) text ≡ 0x7d ∷ drop at text
 
--- what is gathered with a turn; where it is the last, the brace is passed
-pub record TurnHeld (slots : List Slot) (text scratch : List ℕ) (r : Turn) (ts : List (Typed FilterPart)) : Type 0 where
-  pub gathered : Gathered slots (length text) scratch r.parts ts
-  pub closed : r.code ≡ 0 → r.more ≡ false → Closed text r.at
+-- what is gathered with a turn up to a place; where it is the last, the brace is passed
+pub record TurnHeld (slots : List Slot) (text scratch : List ℕ) (at : ℕ) (turn : Turn) (ts : List (Typed FilterPart)) : Type 0 where
+  pub gathered : Gathered slots (length text) scratch turn.parts ts
+  pub closed : turn.more ≡ false → Closed text at
 
 -- all fields of an object are gathered, and its brace is passed
-pub record AllGathered (slots : List Slot) (text scratch : List ℕ) (r : Turn) (ts : List (Typed FilterPart)) : Type 0 where
-  pub gathered : Gathered slots (length text) scratch r.parts ts
-  pub closed : Closed text r.at
+pub record AllGathered (slots : List Slot) (text scratch : List ℕ) (at : ℕ) (p : Parts) (ts : List (Typed FilterPart)) : Type 0 where
+  pub gathered : Gathered slots (length text) scratch p ts
+  pub closed : Closed text at
 
 -- a field more, behind those that were gathered before it
-pub record GathersOn (text : List ℕ) (at : ℕ) (table before after : List ℕ) (field : ℕ) (p : Parts) (r : Turn) : Type 0 where
+pub record GathersOn (text : List ℕ) (at : ℕ) (table before after : List ℕ) (field : ℕ) (p : Parts) (r : Result (Read Parts) Misread) : Type 0 where
   pub on : (ts : List (Typed FilterPart)) → Gathered (table_slots table) (length text) before p ts → value_of field ts ≡ none
-      → Tells text at (λ part. Gathered (table_slots table) (length text) after r.parts (typed field part ∷ ts))
-      (filter_reads (judges_of (table_slots table)) field (drop at text)) r.code r.at
-  pub inside : r.at ≤ length text
+      → Reads text at (λ part q. Gathered (table_slots table) (length text) after q (typed field part ∷ ts))
+      (filter_reads (judges_of (table_slots table)) field (drop at text)) r
+  pub inside : place_in r ≤ length text
 
 -- ---- what is written of it
 

@@ -8,7 +8,7 @@ use lib.ListN.{length, take, drop, length-append, length-take, length-drop}
 use lib.Seq.{take_at}
 use Rattle.definitions.specs.declared.Condition.{Condition}
 use Rattle.definitions.specs.RuleSet.{Rule}
-use Rattle.definitions.specs.Format.{joined, encode_condition}
+use Rattle.definitions.specs.Format.{width_number, operator_number, joined, encode_condition}
 use Rattle.definitions.specs.JsonReader.{stop, not_json, blanks}
 use Rattle.definitions.specs.FormReader.{wrong, judged, keyed_there, object_there, list_there, condition_there, Judges, judges_of}
 use Rattle.definitions.specs.CallNames.{Slot}
@@ -17,8 +17,6 @@ use Rattle.json_theorems.proofs.Turns.{list_turns}
 use Rattle.json_theorems.proofs.Sizes.{condition_size}
 use Rattle.json_scan.specs.Scan.{At, Tells}
 use Rattle.json_scan.proofs.Telling.{came}
-use Rattle.json_condition.specs.declared.ConditionRead.{ConditionRead}
-use Rattle.json_condition.specs.Conditions.{Spells}
 use Rattle.bpf.specs.Place.{place}
 use Rattle.bpf.proofs.Buffer.{length_place}
 use Rattle.writers.specs.Bytes.{condition_bytes}
@@ -36,9 +34,11 @@ take_place : (l : List ℕ) (at n : ℕ) (bs : List ℕ) → n ≡ at + length b
 unfolding place
 take_place l at n bs e h = take_at (take at l ++ bs) (drop (at + length bs) l) n (simp (length-append, length-take) (omega arith))
 
-spelled : (r : ConditionRead) (q : Condition) → Spells r q → condition_bytes r.index r.width r.operator r.value r.mask ≡ encode_condition q
+-- a condition's bytes, by its numbers
+spelled : (q : Condition) (width operator : ℕ) → width ≡ width_number q.width → operator ≡ operator_number q.operator
+    → condition_bytes q.index width operator q.value q.mask ≡ encode_condition q
 unfolding condition_bytes encode_condition
-spelled r q s = rw (s.index, s.width, s.operator, s.value, s.mask)
+spelled q width operator w o = rw (w, o)
 
 pub record Filling (slots : List Slot) (text : List ℕ) (from : ℕ) (raw₀ : List ℕ) (spot : ℕ) (raw : List ℕ) (at : ℕ) (more : Bool) (count : ℕ) : Type 0 where
   pub done : Rule
@@ -61,46 +61,51 @@ filling_start {slots} {text} {from} raw spot told z h =
     }
 
 module _ {slots : List Slot} {text : List ℕ} {from : ℕ} {raw₀ : List ℕ} {spot : ℕ} {raw : List ℕ} {at : ℕ} {more : Bool} {count : ℕ}
-    (f : Filling slots text from raw₀ spot raw at more count) (e : more ≡ true) {start : ℕ} (p : At text (blanks (drop at text)) start)
-    {r : ConditionRead} (told : Tells text start (λ q. Spells r q) (condition_there (judges_of slots) (drop start text)) r.code r.at) where
+    (f : Filling slots text from raw₀ spot raw at more count) (e : more ≡ true) {start : ℕ} (p : At text (blanks (drop at text)) start) where
   loop : Loop (list_turns (condition_there (judges_of slots))) (λ xs l. condition_there (judges_of slots) (blanks l)) 0x5d (λ xs a. xs ++ (a ∷ []))
   loop = list_loop (condition_there (judges_of slots)) (condition_nothing (judges_of slots))
 
-  item : Tells text at (λ q. Spells r q) (condition_there (judges_of slots) (blanks (drop at text))) r.code r.at
-  item = from_blanks (condition_there (judges_of slots)) f.turning.inside p told
+  item : {code past : ℕ} {Is : Condition → Type 0} → Tells text start Is (condition_there (judges_of slots) (drop start text)) code past
+      → Tells text at Is (condition_there (judges_of slots) (blanks (drop at text))) code past
+  item told = from_blanks (condition_there (judges_of slots)) f.turning.inside p told
 
-  pub condition_stopped : {before : ℕ} {Is : Rule → Type 0} → (r.code ≡ 0 → ⊥) → Tells text before Is (list_there (condition_there (judges_of slots)) (drop from text)) r.code r.at
-  condition_stopped h = item_stopped loop (still e f.turning) item h
+  pub condition_stopped : {code past : ℕ} {Is : Condition → Type 0} → Tells text start Is (condition_there (judges_of slots) (drop start text)) code past
+      → {before : ℕ} {Is' : Rule → Type 0} → (code ≡ 0 → ⊥) → Tells text before Is' (list_there (condition_there (judges_of slots)) (drop from text)) code past
+  condition_stopped told h = item_stopped loop (still e f.turning) (item told) h
 
-  module _ (z : r.code ≡ 0) where
-    pub condition_room : (spot + 24 * count + 24 ≤ r.at) × (at < r.at) × (r.at ≤ length text)
+  module _ {code past : ℕ} {v : Condition} (told : Tells text start (λ q. v ≡ q) (condition_there (judges_of slots) (drop start text)) code past) (z : code ≡ 0) where
+    pub condition_room : (spot + 24 * count + 24 ≤ past) × (at < past) × (past ≤ length text)
     condition_room =
         let c = came told z in
         let s = condition_size (judges_of slots) (drop start text) c.part c.rest c.got_it in
         let d = ap length c.place.behind in
         let o = blanks_on text at start f.turning.inside p in
-        (omega (arith, length-drop start text, length-drop r.at text, f.room, p.inside, c.place.inside), omega (arith, c.on), c.place.inside)
+        (omega (arith, length-drop start text, length-drop past text, f.room, p.inside, c.place.inside), omega (arith, c.on), c.place.inside)
 
-    module _ {next : Bool} {code end : ℕ} (behind : Tells text r.at (λ b. next ≡ b) (more_there 0x5d (drop r.at text)) code end) where
-      pub condition_behind : {before : ℕ} {Is : Rule → Type 0} → (code ≡ 0 → ⊥) → Tells text before Is (list_there (condition_there (judges_of slots)) (drop from text)) code end
-      condition_behind h = more_stopped loop (still e f.turning) (came item z) behind h
+    module _ {code' end : ℕ} where
+      pub condition_behind : {Is : Bool → Type 0} → Tells text past Is (more_there 0x5d (drop past text)) code' end
+          → {before : ℕ} {Is' : Rule → Type 0} → (code' ≡ 0 → ⊥) → Tells text before Is' (list_there (condition_there (judges_of slots)) (drop from text)) code' end
+      condition_behind behind h = more_stopped loop (still e f.turning) (came (item told) z) behind h
 
-      pub filling_again : (raw' : List ℕ) → length text ≤ length raw → raw' ≡ place raw (spot + 24 * count) (condition_bytes r.index r.width r.operator r.value r.mask)
-          → code ≡ 0 → Filling slots text from raw₀ spot raw' end next (count + 1)
-      filling_again raw' fits wrote y =
-          let i = came item z in
-          let b = condition_bytes r.index r.width r.operator r.value r.mask in
-          let n = length_numbers r.index r.width r.operator r.value r.mask in
+      pub filling_again : {next : Bool} → Tells text past (λ b. next ≡ b) (more_there 0x5d (drop past text)) code' end
+          → {raw' : List ℕ} {width operator : ℕ} → width ≡ width_number v.width → operator ≡ operator_number v.operator
+          → length text ≤ length raw → raw' ≡ place raw (spot + 24 * count) (condition_bytes v.index width operator v.value v.mask)
+          → code' ≡ 0 → Filling slots text from raw₀ spot raw' end next (count + 1)
+      filling_again behind {raw'} {width} {operator} w o fits wrote y =
+          let i = came (item told) z in
+          let b = condition_bytes v.index width operator v.value v.mask in
+          let n = length_numbers v.index width operator v.value v.mask in
           let m = condition_room in
           let t = turning loop (still e f.turning) i behind y in
           let k : take (spot + 24 * (count + 1)) (place raw (spot + 24 * count) b) ≡ take (spot + 24 * count) raw ++ b = take_place raw (spot + 24 * count) (spot + 24 * (count + 1)) b (omega arith) (omega arith) in
+          let s : b ≡ encode_condition i.part = spelled v width operator w o ∙ ap encode_condition i.value in
           record {
             done = f.done ++ (i.part ∷ []);
             turning = t;
             put = record {
               fits = λ h. omega (arith, f.long);
               counted = ap (λ (x : ℕ). x + 1) f.put.counted ∙ sym (length_last f.done i.part);
-              written = rw wrote (k ∙ rw (f.put.written, joined_last encode_condition f.done i.part, spelled r i.part i.value) (append_assoc (take spot raw₀) (joined encode_condition f.done) (encode_condition i.part)));
+              written = rw wrote (k ∙ rw (f.put.written, joined_last encode_condition f.done i.part, s) (append_assoc (take spot raw₀) (joined encode_condition f.done) (encode_condition i.part)));
             };
             room = omega (arith, (came behind y).on);
             long = rw wrote (length_place raw (spot + 24 * count) b (omega arith) ∙ f.long);

@@ -1,8 +1,10 @@
 -- A line's fields: what is known of a line with one more of them, and the loop that reads them. Assumes nothing.
-use mathlib.Core.Path.{◌≡◌, refl, ap, sym, subst⁻¹, ◌∙◌}
+use mathlib.Core.Path.{◌≡◌, refl, ap, sym, ◌∙◌}
 use mathlib.Core.Bool.{Bool, true, false, cond, ◌||◌}
 use mathlib.Core.List.{List, [], ◌∷◌, ◌++◌}
 use mathlib.Core.Option.{Option, none, some}
+use Rattle.std.specs.Prelude.{None, Some}
+use Rattle.std.specs.Prelude as given
 use Prim.Native.Nat.{ℕ, zero, suc, ◌+◌, ◌-◌, ◌*◌, ◌≤◌, ◌<◌}
 use native.Mathlib.Omega.{arith}
 use lib.Dec.{eqb}
@@ -19,7 +21,7 @@ use Rattle.json_theorems.proofs.Turns.{onward, field_turns, value_turn, field_tu
 use Rattle.json_theorems.proofs.Tests.{false_not_true}
 use Rattle.json_theorems.proofs.Parts.{blanks_sound, ended_got}
 use Rattle.json_scan.specs.Scan.{At, Tells}
-use Rattle.json_scan.proofs.Telling.{came, handed_on}
+use Rattle.json_scan.proofs.Telling.{Came, came, handed_on}
 use Rattle.json_lines.specs.declared.LineRead.{LineRead}
 use Rattle.json_lines.specs.Lines.{begin_there, call_there, args_there, fresh_there, fields_there, seen_in, ArgsOf, CallIs, ArgsAre, RemarkIs, Holds, Known}
 use Rattle.json_lines.proofs.Steps.{tells_got, tells_map, tells_before, Turning, Loop, Begins, begin_turning, still, turning, item_stopped, more_stopped}
@@ -47,40 +49,49 @@ standing raw₀ raw cs p n e h =
 front_less : (raw₀ raw : List ℕ) (spot : ℕ) → take (spot + 12) raw ≡ take (spot + 12) raw₀ → take spot raw ≡ take spot raw₀
 front_less raw₀ raw spot e = sym (take-take spot (spot + 12) raw (omega arith)) ∙ ap (λ (x : List ℕ). take spot x) e ∙ take-take spot (spot + 12) raw₀ (omega arith)
 
-module _ {slots : List Slot} {raw₀ raw : List ℕ} {spot : ℕ} {line : LineRead} {ts : List (Typed LinePart)} (h : Holds slots raw₀ raw spot line ts) where
-  -- the same, told of another place
-  pub elsewhere : (code at : ℕ) → Holds slots raw₀ raw spot (record { code = code; at = at; called = line.called; number = line.number; given = line.given; ruled = line.ruled; count = line.count; remarked = line.remarked }) ts
-  elsewhere code at = record { call = h.call; args = h.args; remark = h.remark; front = h.front }
+module _ {slots : List Slot} {raw₀ raw : List ℕ} {spot : ℕ} {line : LineRead} {ts : List (Typed LinePart)} (h : Holds slots raw₀ raw spot line ts)
+    {text : List ℕ} {at code past : ℕ} where
+  pub with_call : {field number : ℕ} → field ≡ 0 → Tells text at (λ s. number_for slots s ≡ some number) (call_there slots (drop at text)) code past
+      → Tells text at (λ part. Holds slots raw₀ raw spot (record { number = Some number; args = line.args; commented = line.commented }) (typed field part ∷ ts))
+      (line_reads (judges_of slots) field (drop at text)) code past
+  unfolding call_there
+  with_call z told = rw z (tells_map (λ s. the_call s) (λ s e. record { call = e; args = h.args; remark = h.remark; front = h.front }) told)
 
-  module _ {text : List ℕ} {at code past : ℕ} where
-    pub with_call : {field number : ℕ} → field ≡ 0 → Tells text at (λ s. number_for slots s ≡ some number) (call_there slots (drop at text)) code past
-        → Tells text at (λ part. Holds slots raw₀ raw spot (record { code = code; at = past; called = true; number = number; given = line.given; ruled = line.ruled; count = line.count; remarked = line.remarked }) (typed field part ∷ ts))
-        (line_reads (judges_of slots) field (drop at text)) code past
-    unfolding call_there
-    with_call z told = rw z (tells_map (λ s. the_call s) (λ s e. record { call = (refl, e); args = h.args; remark = h.remark; front = h.front }) told)
+  pub with_comment : {field : ℕ} → field ≡ 2 → {Is₀ : Option (List ℕ) → Type 0} → Tells text at Is₀ (null_or string_there (drop at text)) code past
+      → Tells text at (λ part. Holds slots raw₀ raw spot (record { number = line.number; args = line.args; commented = true }) (typed field part ∷ ts))
+      (line_reads (judges_of slots) field (drop at text)) code past
+  with_comment z told = rw z (tells_map (λ c. the_remark c) (λ c e. record { call = h.call; args = h.args; remark = refl; front = h.front }) told)
 
-    pub with_remark : {field : ℕ} → field ≡ 2 → Tells text at (λ c. Unit {0}) (null_or string_there (drop at text)) code past
-        → Tells text at (λ part. Holds slots raw₀ raw spot (record { code = code; at = past; called = line.called; number = line.number; given = line.given; ruled = line.ruled; count = line.count; remarked = true }) (typed field part ∷ ts))
-        (line_reads (judges_of slots) field (drop at text)) code past
-    with_remark z told = rw z (tells_map (λ c. the_remark c) (λ c e. record { call = h.call; args = h.args; remark = refl; front = h.front }) told)
+  pub with_args : {field : ℕ} {conditions : given.Option ℕ} {raw' : List ℕ} → field ≡ 1
+      → Tells text at (ArgsOf raw raw' (spot + 12) conditions) (args_there (judges_of slots) (drop at text)) code past
+      → Tells text at (λ part. Holds slots raw₀ raw' spot (record { number = line.number; args = Some conditions; commented = line.commented }) (typed field part ∷ ts))
+      (line_reads (judges_of slots) field (drop at text)) code past
+  unfolding args_there
+  with_args {conditions = conditions} {raw'} z told = rw z (tells_map (λ r. the_args r) (added conditions) told)
+    where
+      added : (n : given.Option ℕ) (o : Option Rule) → ArgsOf raw raw' (spot + 12) n o
+          → Holds slots raw₀ raw' spot (record { number = line.number; args = Some n; commented = line.commented }) (typed 1 (the_args o) ∷ ts)
+      added n none a = record { call = h.call; args = a.0; remark = h.remark; front = front_less raw raw' spot a.1 ∙ h.front }
+      added None (some q) a = absurd a
+      added (Some count) (some q) a =
+          let s = standing raw raw' (joined encode_condition q) (spot + 12) (24 * count) a.1.written (omega (arith, a.1.fits a.0)) in
+          record { call = h.call; args = record { counted = a.1.counted; written = s.0 }; remark = h.remark; front = front_less raw raw' spot s.1 ∙ h.front }
 
-    pub with_args : {field count : ℕ} {ruled : Bool} {raw' : List ℕ} → field ≡ 1 → Tells text at (ArgsOf raw raw' (spot + 12) ruled count) (args_there (judges_of slots) (drop at text)) code past
-        → Tells text at (λ part. Holds slots raw₀ raw' spot (record { code = code; at = past; called = line.called; number = line.number; given = true; ruled = ruled; count = count; remarked = line.remarked }) (typed field part ∷ ts))
-        (line_reads (judges_of slots) field (drop at text)) code past
-    unfolding args_there
-    with_args {count = count} {ruled} {raw'} z told = rw z (tells_map (λ r. the_args r) added told)
-      where
-        added : (o : Option Rule) → ArgsOf raw raw' (spot + 12) ruled count o
-            → Holds slots raw₀ raw' spot (record { code = code; at = past; called = line.called; number = line.number; given = true; ruled = ruled; count = count; remarked = line.remarked }) (typed 1 (the_args o) ∷ ts)
-        added none a = record { call = h.call; args = (refl, a.0); remark = h.remark; front = front_less raw raw' spot a.1 ∙ h.front }
-        added (some q) a =
-            let s = standing raw raw' (joined encode_condition q) (spot + 12) (24 * count) a.2.written (omega (arith, a.2.fits a.1)) in
-            record {
-              call = h.call;
-              args = (refl, (a.0, record { counted = a.2.counted; written = s.0 }));
-              remark = h.remark;
-              front = front_less raw raw' spot s.1 ∙ h.front;
-            }
+-- a value that was not read
+module _ (slots : List Slot) {text : List ℕ} {at field code past : ℕ} {Is : LinePart → Type 0} where
+  pub call_stopped : field ≡ 0 → {Is₀ : List ℕ → Type 0} → Tells text at Is₀ (call_there slots (drop at text)) code past → (code ≡ 0 → ⊥)
+      → Tells text at Is (line_reads (judges_of slots) field (drop at text)) code past
+  unfolding call_there
+  call_stopped z told h = rw z (handed_on _ told h)
+
+  pub args_stopped : field ≡ 1 → {Is₀ : Option Rule → Type 0} → Tells text at Is₀ (args_there (judges_of slots) (drop at text)) code past → (code ≡ 0 → ⊥)
+      → Tells text at Is (line_reads (judges_of slots) field (drop at text)) code past
+  unfolding args_there
+  args_stopped z told h = rw z (handed_on _ told h)
+
+  pub comment_stopped : field ≡ 2 → {Is₀ : Option (List ℕ) → Type 0} → Tells text at Is₀ (null_or string_there (drop at text)) code past → (code ≡ 0 → ⊥)
+      → Tells text at Is (line_reads (judges_of slots) field (drop at text)) code past
+  comment_stopped z told h = rw z (handed_on _ told h)
 
 -- ---- which fields were seen
 
@@ -92,30 +103,32 @@ typed_there f (t ∷ ts) = go (eqb t.field f) (typed_there f ts)
     go true h = refl
     go false h = h
 
-call_seen : (slots : List Slot) (called : Bool) (number : ℕ) (o : Option LinePart) → CallIs slots called number o → called ≡ is_some o
-call_seen slots called number none h = h
-call_seen slots called number (some (the_call s)) h = h.0
-call_seen slots called number (some (the_args r)) h = absurd h
-call_seen slots called number (some (the_remark c)) h = absurd h
+call_seen : (slots : List Slot) (number : given.Option ℕ) (o : Option LinePart) → CallIs slots number o → given.is_some number ≡ is_some o
+call_seen slots number none h = rw h
+call_seen slots None (some (the_call s)) h = absurd h
+call_seen slots (Some n) (some (the_call s)) h = refl
+call_seen slots number (some (the_args r)) h = absurd h
+call_seen slots number (some (the_remark c)) h = absurd h
 
-args_seen : (raw : List ℕ) (spot : ℕ) (given ruled : Bool) (count : ℕ) (o : Option LinePart) → ArgsAre raw spot given ruled count o → given ≡ is_some o
-args_seen raw spot given ruled count none h = h.0
-args_seen raw spot given ruled count (some (the_call s)) h = absurd h
-args_seen raw spot given ruled count (some (the_args r)) h = h.0
-args_seen raw spot given ruled count (some (the_remark c)) h = absurd h
+args_seen : (raw : List ℕ) (spot : ℕ) (args : given.Option (given.Option ℕ)) (o : Option LinePart) → ArgsAre raw spot args o → given.is_some args ≡ is_some o
+args_seen raw spot args none h = rw h
+args_seen raw spot args (some (the_call s)) h = absurd h
+args_seen raw spot None (some (the_args r)) h = absurd h
+args_seen raw spot (Some conditions) (some (the_args r)) h = refl
+args_seen raw spot args (some (the_remark c)) h = absurd h
 
-remark_seen : (remarked : Bool) (o : Option LinePart) → RemarkIs remarked o → remarked ≡ is_some o
-remark_seen remarked none h = h
-remark_seen remarked (some (the_call s)) h = absurd h
-remark_seen remarked (some (the_args r)) h = absurd h
-remark_seen remarked (some (the_remark c)) h = h
+remark_seen : (commented : Bool) (o : Option LinePart) → RemarkIs commented o → commented ≡ is_some o
+remark_seen commented none h = h
+remark_seen commented (some (the_call s)) h = absurd h
+remark_seen commented (some (the_args r)) h = absurd h
+remark_seen commented (some (the_remark c)) h = h
 
 holds_seen : {slots : List Slot} {raw₀ raw : List ℕ} {spot : ℕ} {line : LineRead} {ts : List (Typed LinePart)} → Holds slots raw₀ raw spot line ts
     → (f : ℕ) → f < 3 → seen_in line f ≡ has_typed f ts
 unfolding seen_in
-holds_seen {slots} {raw₀} {raw} {spot} {line} {ts} h zero l = call_seen slots line.called line.number (value_of 0 ts) h.call ∙ typed_there 0 ts
-holds_seen {slots} {raw₀} {raw} {spot} {line} {ts} h (suc zero) l = args_seen raw spot line.given line.ruled line.count (value_of 1 ts) h.args ∙ typed_there 1 ts
-holds_seen {slots} {raw₀} {raw} {spot} {line} {ts} h (suc (suc zero)) l = remark_seen line.remarked (value_of 2 ts) h.remark ∙ typed_there 2 ts
+holds_seen {slots} {raw₀} {raw} {spot} {line} {ts} h zero l = call_seen slots line.number (value_of 0 ts) h.call ∙ typed_there 0 ts
+holds_seen {slots} {raw₀} {raw} {spot} {line} {ts} h (suc zero) l = args_seen raw spot line.args (value_of 1 ts) h.args ∙ typed_there 1 ts
+holds_seen {slots} {raw₀} {raw} {spot} {line} {ts} h (suc (suc zero)) l = remark_seen line.commented (value_of 2 ts) h.remark ∙ typed_there 2 ts
 holds_seen h (suc (suc (suc n))) l = absurd (omega arith)
 
 -- ---- the loop
@@ -180,84 +193,80 @@ brace_there text rest past end b h e p =
       behind = rw q (sym (drop-drop (length s.skipped) past text) ∙ ap (λ (m : List ℕ). drop (length s.skipped) m) x ∙ drop_at s.skipped (b ∷ rest) (length s.skipped) refl ∙ ap (λ (m : List ℕ). b ∷ m) (sym p.behind));
     }
 
-pub record Reading (slots : List Slot) (text : List ℕ) (from : ℕ) (raw₀ : List ℕ) (spot : ℕ) (raw : List ℕ) (line : LineRead) (more : Bool) : Type 0 where
+pub record Reading (slots : List Slot) (text : List ℕ) (from : ℕ) (raw₀ : List ℕ) (spot : ℕ) (raw : List ℕ) (at : ℕ) (line : LineRead) (more : Bool) : Type 0 where
   pub done : List (Typed LinePart)
-  pub turning : Turning text (field_turns line_keys (line_reads (judges_of slots))) (fields_there (judges_of slots) (drop from text)) from line.at more done
+  pub turning : Turning text (field_turns line_keys (line_reads (judges_of slots))) (fields_there (judges_of slots) (drop from text)) from at more done
   pub holds : Holds slots raw₀ raw spot line done
-  pub fine : line.code ≡ 0
   pub long : length raw ≡ length raw₀
-  pub brace : more ≡ false → At text (0x7d ∷ drop line.at text) (line.at - 1)
+  pub brace : more ≡ false → At text (0x7d ∷ drop at text) (at - 1)
 
-pub reading_start : (slots : List Slot) {text : List ℕ} {from code at : ℕ} {more : Bool} (raw : List ℕ) (spot : ℕ) {line : LineRead}
-    → line ≡ record { code = 0; at = at; called = false; number = 0; given = false; ruled = false; count = 0; remarked = false }
-    → Tells text from (λ b. more ≡ b) (begin_there 0x7b 0x7d (drop from text)) code at → (code ≡ 0 → more ≡ false → At text (0x7d ∷ drop at text) (at - 1)) → code ≡ 0
-    → Reading slots text from raw spot raw line more
-reading_start slots {text} {from} raw spot is told closed z = rw is (record {
+pub reading_start : (slots : List Slot) {text : List ℕ} {from code at : ℕ} {more : Bool} (raw : List ℕ) (spot : ℕ)
+    → Tells text from (λ b. more ≡ b) (begin_there 0x7b 0x7d (drop from text)) code at → (more ≡ false → At text (0x7d ∷ drop at text) (at - 1)) → code ≡ 0
+    → Reading slots text from raw spot raw at (record { number = None; args = None; commented = false }) more
+reading_start slots {text} {from} raw spot told closed z = record {
   done = [];
   turning = begin_turning (fields_begin slots (drop from text)) told z;
-  holds = record { call = refl; args = (refl, refl); remark = refl; front = refl };
-  fine = refl;
+  holds = record { call = refl; args = refl; remark = refl; front = refl };
   long = refl;
-  brace = closed z;
-})
+  brace = closed;
+}
 
 -- the loop is over
-pub reading_end : {slots : List Slot} {text : List ℕ} {from : ℕ} {raw₀ : List ℕ} {spot : ℕ} {raw : List ℕ} {line : LineRead} {more : Bool}
-    → Reading slots text from raw₀ spot raw line more → more ≡ false → Tells text from (Known slots text raw₀ raw spot line) (fields_there (judges_of slots) (drop from text)) line.code line.at
+pub reading_end : {slots : List Slot} {text : List ℕ} {from : ℕ} {raw₀ : List ℕ} {spot : ℕ} {raw : List ℕ} {at : ℕ} {line : LineRead} {more : Bool}
+    → Reading slots text from raw₀ spot raw at line more → more ≡ false → Tells text from (Known slots text raw₀ raw spot at line) (fields_there (judges_of slots) (drop from text)) 0 at
 reading_end r e =
     let t = still e r.turning in
-    tells_got t.same r.fine t.on (record { inside = t.inside; behind = refl }) (record { holds = r.holds; brace = r.brace e })
-
--- what is told by a struct that a function gives
-pub told_by : {A : Type 0} {text : List ℕ} {from : ℕ} {Is : A → Type 0} {g : Got A} {r s : LineRead} → r ≡ s → Tells text from Is g s.code s.at → Tells text from Is g r.code r.at
-told_by {text = text} {from} {Is} {g} e t = subst⁻¹ (λ (x : LineRead). Tells text from Is g x.code x.at) e t
+    tells_got t.same refl t.on (record { inside = t.inside; behind = refl }) (record { holds = r.holds; brace = r.brace e })
 
 item_is : (slots : List Slot) (g : Got ℕ) (f value : ℕ) (rest behind : List ℕ) → g ≡ got f rest → value ≡ f → behind ≡ rest
     → follow g (λ f behind. follow (line_reads (judges_of slots) f behind) (λ a rest. got (typed f a) rest)) ≡ follow (line_reads (judges_of slots) value behind) (λ a rest. got (typed value a) rest)
 item_is slots g f value rest behind e v b = rw (e, v, b)
 
-module _ {slots : List Slot} {text : List ℕ} {from : ℕ} {raw₀ : List ℕ} {spot : ℕ} {raw : List ℕ} {line : LineRead} {more : Bool}
-    (r : Reading slots text from raw₀ spot raw line more) (e : more ≡ true) {value code past : ℕ}
-    (key : Tells text line.at (λ f. value ≡ f) (fresh_there (seen_in line) (drop line.at text)) code past) where
-  fresh : Tells text line.at (λ f. value ≡ f) (fresh_there (λ f. has_typed f r.done) (drop line.at text)) code past
-  fresh = rw (← fresh_same (seen_in line) (λ f. has_typed f r.done) (drop line.at text) (holds_seen r.holds)) key
+module _ {slots : List Slot} {text : List ℕ} {from : ℕ} {raw₀ : List ℕ} {spot : ℕ} {raw : List ℕ} {at : ℕ} {line : LineRead} {more : Bool}
+    (r : Reading slots text from raw₀ spot raw at line more) (e : more ≡ true) where
+  fresh : {code past : ℕ} {Is : ℕ → Type 0} → Tells text at Is (fresh_there (seen_in line) (drop at text)) code past → Tells text at Is (fresh_there (λ f. has_typed f r.done) (drop at text)) code past
+  fresh key = rw (← fresh_same (seen_in line) (λ f. has_typed f r.done) (drop at text) (holds_seen r.holds)) key
 
-  pub key_stopped : {before : ℕ} {Is : List (Typed LinePart) → Type 0} → (code ≡ 0 → ⊥) → Tells text before Is (fields_there (judges_of slots) (drop from text)) code past
-  key_stopped h = item_stopped (fields_loop slots) (still e r.turning) (handed_on {Is' = λ t. Unit {0}} _ fresh h) h
+  pub key_stopped : {code past : ℕ} {Is : ℕ → Type 0} → Tells text at Is (fresh_there (seen_in line) (drop at text)) code past
+      → {before : ℕ} {Is' : List (Typed LinePart) → Type 0} → (code ≡ 0 → ⊥) → Tells text before Is' (fields_there (judges_of slots) (drop from text)) code past
+  key_stopped key h = item_stopped (fields_loop slots) (still e r.turning) (handed_on {Is' = λ t. Unit {0}} _ (fresh key) h) h
 
-  module _ (z : code ≡ 0) where
+  module _ {value code past : ℕ} (key : Tells text at (λ f. value ≡ f) (fresh_there (seen_in line) (drop at text)) code past) (z : code ≡ 0) where
     pub key_known_lem : value < 3
-    key_known_lem = let c = came fresh z in let v = c.value in let s = fresh_small _ (drop line.at text) c.part c.rest c.got_it in omega arith
+    key_known_lem = let c = came (fresh key) z in let v = c.value in let s = fresh_small _ (drop at text) c.part c.rest c.got_it in omega arith
 
     pub key_new : has_typed value r.done ≡ false
-    key_new = let c = came fresh z in ap (λ (f : ℕ). has_typed f r.done) c.value ∙ fresh_new (λ f. has_typed f r.done) (drop line.at text) c.part c.rest c.got_it
+    key_new = let c = came (fresh key) z in ap (λ (f : ℕ). has_typed f r.done) c.value ∙ fresh_new (λ f. has_typed f r.done) (drop at text) c.part c.rest c.got_it
 
-    module _ {raw' : List ℕ} {next : LineRead}
-        (told : Tells text past (λ part. Holds slots raw₀ raw' spot next (typed value part ∷ r.done)) (line_reads (judges_of slots) value (drop past text)) next.code next.at) where
-      item : Tells text line.at (λ t. Holds slots raw₀ raw' spot next (t ∷ r.done)) (field_item slots r.done (drop line.at text)) next.code next.at
-      item =
-          let c = came fresh z in
+    module _ {code' past' : ℕ} where
+      item : {Is : LinePart → Type 0} {Is' : Typed LinePart → Type 0} → ((part : LinePart) → Is part → Is' (typed value part))
+          → Tells text past Is (line_reads (judges_of slots) value (drop past text)) code' past' → Tells text at Is' (field_item slots r.done (drop at text)) code' past'
+      item is told =
+          let c = came (fresh key) z in
           rw (item_is slots _ _ value _ (drop past text) c.got_it c.value c.place.behind)
-          (tells_before (omega (arith, c.on)) (λ a x. x) (tells_map (λ a. typed value a) (λ a x. x) told))
+          (tells_before (omega (arith, c.on)) (λ a x. x) (tells_map (λ a. typed value a) is told))
 
-      pub value_stopped : {before : ℕ} {Is : List (Typed LinePart) → Type 0} → (next.code ≡ 0 → ⊥) → Tells text before Is (fields_there (judges_of slots) (drop from text)) next.code next.at
-      value_stopped h = item_stopped (fields_loop slots) (still e r.turning) item h
+      pub value_stopped : {Is : LinePart → Type 0} → Tells text past Is (line_reads (judges_of slots) value (drop past text)) code' past'
+          → {before : ℕ} {Is' : List (Typed LinePart) → Type 0} → (code' ≡ 0 → ⊥) → Tells text before Is' (fields_there (judges_of slots) (drop from text)) code' past'
+      value_stopped told h = item_stopped (fields_loop slots) (still e r.turning) (item {Is' = λ t. Unit {0}} (λ part x. tt) told) h
 
-      module _ (y : next.code ≡ 0) {on : Bool} {code' end : ℕ} (behind : Tells text next.at (λ b. on ≡ b) (more_there 0x7d (drop next.at text)) code' end) where
-        pub value_behind : {before : ℕ} {Is : List (Typed LinePart) → Type 0} → (code' ≡ 0 → ⊥) → Tells text before Is (fields_there (judges_of slots) (drop from text)) code' end
-        value_behind h = more_stopped (fields_loop slots) (still e r.turning) (came item y) behind h
+      module _ {raw' : List ℕ} {next : LineRead} (told : Tells text past (λ part. Holds slots raw₀ raw' spot next (typed value part ∷ r.done)) (line_reads (judges_of slots) value (drop past text)) code' past')
+          (y : code' ≡ 0) where
+        read : Came text at (λ t. Holds slots raw₀ raw' spot next (t ∷ r.done)) (field_item slots r.done (drop at text)) past'
+        read = came (item (λ part x. x) told) y
 
-        pub reading_again : {last : LineRead}
-            → last ≡ record { code = 0; at = end; called = next.called; number = next.number; given = next.given; ruled = next.ruled; count = next.count; remarked = next.remarked }
-            → length raw' ≡ length raw → code' ≡ 0 → Reading slots text from raw₀ spot raw' last on
-        reading_again is long w =
-            let c = came item y in
+        pub value_behind : {code'' end : ℕ} {Is : Bool → Type 0} → Tells text past' Is (more_there 0x7d (drop past' text)) code'' end
+            → {before : ℕ} {Is' : List (Typed LinePart) → Type 0} → (code'' ≡ 0 → ⊥) → Tells text before Is' (fields_there (judges_of slots) (drop from text)) code'' end
+        value_behind behind h = more_stopped (fields_loop slots) (still e r.turning) read behind h
+
+        pub reading_again : {code'' end : ℕ} {on : Bool} → Tells text past' (λ b. on ≡ b) (more_there 0x7d (drop past' text)) code'' end
+            → length raw' ≡ length raw → code'' ≡ 0 → Reading slots text from raw₀ spot raw' end next on
+        reading_again {end = end} behind long w =
             let d = came behind w in
-            rw is (record {
-              done = c.part ∷ r.done;
-              turning = turning (fields_loop slots) (still e r.turning) c behind w;
-              holds = elsewhere c.value 0 end;
-              fine = refl;
+            record {
+              done = read.part ∷ r.done;
+              turning = turning (fields_loop slots) (still e r.turning) read behind w;
+              holds = read.value;
               long = long ∙ r.long;
-              brace = λ f. brace_there text d.rest next.at end 0x7d c.place.inside (more_closed 0x7d (drop next.at text) d.rest (d.got_it ∙ ap (λ (b : Bool). got b d.rest) (sym d.value ∙ f)) (omega arith)) d.place;
-            })
+              brace = λ f. brace_there text d.rest past' end 0x7d read.place.inside (more_closed 0x7d (drop past' text) d.rest (d.got_it ∙ ap (λ (b : Bool). got b d.rest) (sym d.value ∙ f)) (omega arith)) d.place;
+            }

@@ -1,8 +1,9 @@
 -- An entry and its rule, written in front of the rule's conditions, are the bytes of a line. Assumes nothing.
 use mathlib.Core.Path.{◌≡◌, refl, ap, sym, ◌∙◌}
-use mathlib.Core.Bool.{Bool, true, false}
 use mathlib.Core.List.{List, [], ◌∷◌, ◌++◌, append_assoc, append-nil}
 use mathlib.Core.Option.{Option, none, some}
+use Rattle.std.specs.Prelude.{None, Some}
+use Rattle.std.specs.Prelude as given
 use Prim.Native.Nat.{ℕ, ◌+◌, ◌*◌, ◌≤◌}
 use native.Mathlib.Omega.{arith}
 use lib.ListN.{length, take, drop, length-append, length-take}
@@ -17,25 +18,14 @@ use Rattle.bpf.specs.Place.{place}
 use Rattle.bpf.proofs.Buffer.{place_next, put_two}
 use Rattle.json_lines.specs.Lines.{RuleIs, head_bytes, entry_size}
 
-pub size_least : (ruled : Bool) (count : ℕ) → 8 ≤ entry_size ruled count
-size_least true count = omega arith
-size_least false count = omega arith
+pub head_bare : (raw : List ℕ) (spot number : ℕ) → spot + 8 ≤ length raw
+    → place (place raw spot (bytes_of 4 number)) (spot + 4) (bytes_of 4 0) ≡ place raw spot (head_bytes number None)
+head_bare raw spot number h = put_two raw spot number 0 h
 
-pub size_bare : (ruled : Bool) (count : ℕ) → ruled ≡ false → entry_size ruled count ≡ 8
-size_bare ruled count e = rw e
-
-pub size_ruled : (ruled : Bool) (count : ℕ) → ruled ≡ true → entry_size ruled count ≡ 12 + 24 * count
-size_ruled ruled count e = rw e
-
-pub head_bare : (raw : List ℕ) (spot number : ℕ) (ruled : Bool) (count : ℕ) → ruled ≡ false → spot + 8 ≤ length raw
-    → place (place raw spot (bytes_of 4 number)) (spot + 4) (bytes_of 4 0) ≡ place raw spot (head_bytes number ruled count)
-head_bare raw spot number ruled count e h = rw e (put_two raw spot number 0 h)
-
-pub head_ruled : (raw : List ℕ) (spot number : ℕ) (ruled : Bool) (count : ℕ) → ruled ≡ true → spot + 12 ≤ length raw
-    → place (place (place raw spot (bytes_of 4 number)) (spot + 4) (bytes_of 4 1)) (spot + 8) (bytes_of 4 count) ≡ place raw spot (head_bytes number ruled count)
-head_ruled raw spot number ruled count e h =
+pub head_ruled : (raw : List ℕ) (spot number count : ℕ) → spot + 12 ≤ length raw
+    → place (place (place raw spot (bytes_of 4 number)) (spot + 4) (bytes_of 4 1)) (spot + 8) (bytes_of 4 count) ≡ place raw spot (head_bytes number (Some count))
+head_ruled raw spot number count h =
     rw (
-      e,
       put_two raw spot number 1 (omega arith),
       place_next raw spot (spot + 8) (bytes_of 4 number ++ bytes_of 4 1) (bytes_of 4 count) (simp (length-append, length_bytes)) (simp length_bytes (omega arith)),
     ) (ap (λ (bs : List ℕ). place raw spot bs) (append_assoc (bytes_of 4 number) (bytes_of 4 1) (bytes_of 4 count)))
@@ -60,20 +50,25 @@ ruled_bytes front number one count conditions = simp (append_assoc, append-nil)
 abbrev pub entry_of : ℕ → Option Rule → Entry
 entry_of number args = record { number = number; rules = rules_of_args args }
 
-module _ (raw : List ℕ) (spot : ℕ) (ruled : Bool) (count : ℕ) where
-  pub entry_long : (number : ℕ) (args : Option Rule) → RuleIs raw spot ruled count args → length (encode_entry (entry_of number args)) ≡ entry_size ruled count
-  entry_long number none h = length_entry (entry_of number none) ∙ sym (size_bare ruled count h)
-  entry_long number (some q) h =
-      length_entry (entry_of number (some q)) ∙ omega (arith, length-append (encode_rule q) [], length_rule q, conditions_long q, h.1.counted, size_ruled ruled count h.0)
+module _ (raw : List ℕ) (spot : ℕ) where
+  pub entry_long : (conditions : given.Option ℕ) (number : ℕ) (args : Option Rule) → RuleIs raw spot conditions args → length (encode_entry (entry_of number args)) ≡ entry_size conditions
+  entry_long conditions number none h = rw h (length_entry (entry_of number none))
+  entry_long None number (some q) h = absurd h
+  entry_long (Some count) number (some q) h =
+      length_entry (entry_of number (some q)) ∙ omega (arith, length-append (encode_rule q) [], length_rule q, conditions_long q, h.counted)
 
-  pub entry_taken : (number : ℕ) (args : Option Rule) → RuleIs raw spot ruled count args → spot + entry_size ruled count ≤ length raw
-      → take (spot + entry_size ruled count) (place raw spot (head_bytes number ruled count)) ≡ take spot raw ++ encode_entry (entry_of number args)
+  pub entry_taken : (conditions : given.Option ℕ) (number : ℕ) (args : Option Rule) → RuleIs raw spot conditions args → spot + entry_size conditions ≤ length raw
+      → take (spot + entry_size conditions) (place raw spot (head_bytes number conditions)) ≡ take spot raw ++ encode_entry (entry_of number args)
   unfolding encode_entry encode_rule
-  entry_taken number none h fits =
-      let z = size_bare ruled count h in
-      rw h (take_behind raw spot (spot + 8) 0 8 (bytes_of 4 number ++ bytes_of 4 0) (simp (length-append, length_bytes)) (omega arith) (omega arith)
-      ∙ bare_bytes (take spot raw) (bytes_of 4 number) (bytes_of 4 0) (drop (spot + 8) raw))
-  entry_taken number (some q) h fits =
-      let z = size_ruled ruled count h.0 in
-      rw h.0 (take_behind raw spot (spot + (12 + 24 * count)) (24 * count) 12 (bytes_of 4 number ++ (bytes_of 4 1 ++ bytes_of 4 count)) (simp (length-append, length_bytes)) (omega arith) (omega arith)
-      ∙ rw (h.1.written, h.1.counted) (ruled_bytes (take spot raw) (bytes_of 4 number) (bytes_of 4 1) (bytes_of 4 (length q)) (joined encode_condition q)))
+  entry_taken conditions number none h fits = bare conditions h fits
+    where
+      bare : (n : given.Option ℕ) → n ≡ None → spot + entry_size n ≤ length raw
+          → take (spot + entry_size n) (place raw spot (head_bytes number n)) ≡ take spot raw ++ encode_entry (entry_of number none)
+      bare None e f =
+          take_behind raw spot (spot + 8) 0 8 (bytes_of 4 number ++ bytes_of 4 0) (simp (length-append, length_bytes)) (omega arith) (omega arith)
+          ∙ bare_bytes (take spot raw) (bytes_of 4 number) (bytes_of 4 0) (drop (spot + 8) raw)
+      bare (Some count) e f = cc
+  entry_taken None number (some q) h fits = absurd h
+  entry_taken (Some count) number (some q) h fits =
+      take_behind raw spot (spot + (12 + 24 * count)) (24 * count) 12 (bytes_of 4 number ++ (bytes_of 4 1 ++ bytes_of 4 count)) (simp (length-append, length_bytes)) (omega arith) (omega arith)
+      ∙ rw (h.written, h.counted) (ruled_bytes (take spot raw) (bytes_of 4 number) (bytes_of 4 1) (bytes_of 4 (length q)) (joined encode_condition q))

@@ -16,6 +16,7 @@ use Rattle.json_theorems.proofs.Tests.{none_not_some}
 use Rattle.json_theorems.proofs.Parts.{follow_got}
 use Rattle.json_scan.specs.Scan.{At, Tells}
 use Rattle.json_scan.proofs.Telling.{came, handed_on}
+use Rattle.json_parts.specs.declared.Object.TheVariants.{Line}
 use Rattle.json_parts.specs.Kinds.{keys_of}
 use Rattle.json_lines.specs.Lines.{fresh_there}
 use Rattle.json_lines.proofs.Steps.{tells_stop, tells_map, tells_before, blanks_on}
@@ -92,34 +93,40 @@ fresh_new seen l f rest e = go (field_there line_keys (blanks l)) e
     go (got x past) h = test x past (seen x) refl h
     go (stop k m) h = absurd (stop_not_got h)
 
-keys_line : keys_of 1 ≡ line_keys
+keys_line : keys_of Line ≡ line_keys
 unfolding keys_of
 keys_line = refl
 
-module _ {text : List ℕ} {at start : ℕ} (seen : ℕ → Bool) (h : at ≤ length text) (p : At text (blanks (drop at text)) start) {value code past : ℕ}
-    (key : Tells text start (λ f. value ≡ f) (field_there (keys_of 1) (drop start text)) code past) where
-  there : Tells text start (λ f. value ≡ f) (field_there line_keys (blanks (drop at text))) code past
-  there = rw (← p.behind, ← keys_line) key
+there : {text l : List ℕ} {start : ℕ} → At text l start → {Is : ℕ → Type 0} {code past : ℕ} → Tells text start Is (field_there (keys_of Line) (drop start text)) code past
+    → Tells text start Is (field_there line_keys l) code past
+there p key = rw (← p.behind, ← keys_line) key
 
-  pub fresh_no : {Is : ℕ → Type 0} → (code ≡ 0 → ⊥) → Tells text at Is (fresh_there seen (drop at text)) code past
+module _ {text : List ℕ} {at start : ℕ} (seen : ℕ → Bool) where
+  pub fresh_no : At text (blanks (drop at text)) start → {Is : ℕ → Type 0} {code past : ℕ} → Tells text start Is (field_there (keys_of Line) (drop start text)) code past
+      → {Is' : ℕ → Type 0} → (code ≡ 0 → ⊥) → Tells text at Is' (fresh_there seen (drop at text)) code past
   unfolding fresh_there
-  fresh_no n = handed_on _ there n
+  fresh_no p key n = handed_on _ (there p key) n
 
-  module _ (z : code ≡ 0) where
+  module _ (h : at ≤ length text) (p : At text (blanks (drop at text)) start) {value code past : ℕ} (key : Tells text start (λ f. value ≡ f) (field_there (keys_of Line) (drop start text)) code past)
+      (z : code ≡ 0) where
     fresh_is : (b : Bool) → b ≡ seen value → fresh_there seen (drop at text) ≡ cond b (stop given_twice (blanks (drop at text))) (follow (colon_there (drop past text)) (λ z behind. got value behind))
     unfolding fresh_there
-    fresh_is b e = let c = came there z in go (field_there line_keys (blanks (drop at text))) c.part c.rest c.got_it c.value c.place.behind
+    fresh_is b e = let c = came (there p key) z in go (field_there line_keys (blanks (drop at text))) c.part c.rest c.got_it c.value c.place.behind
       where
         go : (g : Got ℕ) (f : ℕ) (rest : List ℕ) → g ≡ got f rest → value ≡ f → drop past text ≡ rest
             → follow g (λ f past. cond (seen f) (stop given_twice (blanks (drop at text))) (follow (colon_there past) (λ z behind. got f behind)))
             ≡ cond b (stop given_twice (blanks (drop at text))) (follow (colon_there (drop past text)) (λ z behind. got value behind))
         go g f rest x y w = rw (x, ← y, ← w, ← e)
 
-    pub fresh_twice : {Is : ℕ → Type 0} → true ≡ seen value → Tells text at Is (fresh_there seen (drop at text)) 12 start
+    pub fresh_twice : true ≡ seen value → {Is : ℕ → Type 0} → Tells text at Is (fresh_there seen (drop at text)) 12 start
     fresh_twice e = tells_stop (fresh_is true e) refl (omega arith) p
 
-    pub fresh_key : {value' code' end : ℕ} → false ≡ seen value → Tells text past (λ z. value' ≡ z) (colon_there (drop past text)) code' end
+    pub fresh_colon : false ≡ seen value → {Is₀ Is : ℕ → Type 0} {code' end : ℕ} → Tells text past Is₀ (colon_there (drop past text)) code' end → (code' ≡ 0 → ⊥)
+        → Tells text at Is (fresh_there seen (drop at text)) code' end
+    fresh_colon e colon n = rw (fresh_is false e) (handed_on _ colon n)
+
+    pub fresh_key : false ≡ seen value → {Is₀ : ℕ → Type 0} {code' end : ℕ} → Tells text past Is₀ (colon_there (drop past text)) code' end
         → Tells text at (λ f. value ≡ f) (fresh_there seen (drop at text)) code' end
     fresh_key e colon =
         let o = blanks_on text at start h p in
-        rw (fresh_is false e) (tells_before (omega (arith, (came there z).on)) (λ a x. x) (tells_map (λ z. value) (λ z x. refl) colon))
+        rw (fresh_is false e) (tells_before (omega (arith, (came (there p key) z).on)) (λ a x. x) (tells_map (λ z. value) (λ z x. refl) colon))

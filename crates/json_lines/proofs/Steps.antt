@@ -9,13 +9,17 @@ use native.Mathlib.Omega.{arith}
 use lib.Dec.{eqb, ltb}
 use lib.ListN.{length, drop, get_or, length-drop, drop_of_length-le}
 use lib.Seq.{get_or-drop, drop-drop, drop-cons}
-use borrow.Author.Tests.{eqb-true, ne_eqb, ltb-true, ltb-false}
+use borrow.Author.Tests.{eqb-true, ltb-true, ltb-false}
 use Rattle.definitions.specs.JsonReader.{Got, got, stop, not_json, follow, first, blanks, items}
 use Rattle.definitions.specs.FormReader.{list_there}
 use Rattle.json_theorems.specs.Turns.{open_there, more_there}
 use Rattle.json_theorems.proofs.Turns.{onward, list_turns, list_turn, list_begins}
 use Rattle.json_theorems.proofs.Sizes.{blanks_size}
+use Rattle.std.specs.Prelude.{Result, Ok, Err, IfOk, IsErrAnd}
 use Rattle.json_scan.specs.Scan.{At, Either, Tells}
+use Rattle.json_scan.specs.Telling.{code_of, code_in, place_in}
+use Rattle.json_scan.specs.declared.Misread.{Misread}
+use Rattle.json_scan.specs.declared.Read.{Read}
 use Rattle.json_scan.proofs.Telling.{Came, came, handed_on}
 use Rattle.json_lines.specs.Lines.{begin_there}
 
@@ -45,6 +49,16 @@ tells_before {text = text} {from} {before} {code} {at} {Is} {Is'} {g} h is t = r
     go (got a rest) s = record { fine = s.fine; on = (let o = s.on in omega arith); place = s.place; value = is a s.value }
     go (stop k rest) s = s
 
+-- a fault that `?` hands on
+pub handed : {A V : Type 0} {text : List ℕ} {from : ℕ} {Is : A → Type 0} {g : Got A} (r : Result (Read V) Misread) (e : Misread)
+    → IsErrAnd r (λ y. y ≡ e) → Tells text from Is g (code_of e.why) e.at → Tells text from Is g (code_in r) (place_in r)
+handed (Ok x) e i t = absurd i
+handed (Err y) e i t = rw i t
+
+pub no_value : {V : Type 0} (P : Read V → Type 0) (r : Result (Read V) Misread) (e : Misread) → IsErrAnd r (λ y. y ≡ e) → IfOk r P
+no_value P (Ok x) e i = absurd i
+no_value P (Err y) e i = tt
+
 -- blanks go forth
 pub blanks_on : (text : List ℕ) (at start : ℕ) → at ≤ length text → At text (blanks (drop at text)) start → at ≤ start
 blanks_on text at start h p =
@@ -62,9 +76,6 @@ from_blanks {text = text} {at} {start} r h p t = rw (← p.behind) (tells_before
 pub first_there : (text : List ℕ) (at : ℕ) → get_or text at 0 ≡ first (drop at text)
 first_there text at = sym (get_or-drop at text 0 0 ∙ rw add-zero)
 
-pub first_none : (text : List ℕ) (at b : ℕ) → length text ≤ at → 0 < b → false ≡ eqb (first (drop at text)) b
-first_none text at b h k = sym (rw (drop_of_length-le text h) (ne_eqb 0 b (λ e. omega arith)))
-
 pub first_inside : (text : List ℕ) (at b : ℕ) → first (drop at text) ≡ b → 0 < b → at < length text
 first_inside text at b e k = go (ltb at (length text)) refl
   where
@@ -74,7 +85,7 @@ first_inside text at b e k = go (ltb at (length text)) refl
 
 -- ---- a bracket that begins
 
-module _ {text : List ℕ} {at code past value : ℕ} (opening closing : ℕ) (told : Tells text at (λ z. value ≡ z) (open_there opening (drop at text)) code past) where
+module _ {text : List ℕ} {at code past : ℕ} {Is₀ : ℕ → Type 0} (opening closing : ℕ) (told : Tells text at Is₀ (open_there opening (drop at text)) code past) where
   pub begin_no : {Is : Bool → Type 0} → (code ≡ 0 → ⊥) → Tells text at Is (begin_there opening closing (drop at text)) code past
   unfolding begin_there
   begin_no h = handed_on _ told h
@@ -99,7 +110,7 @@ module _ {text : List ℕ} {at code past value : ℕ} (opening closing : ℕ) (t
 pub begin_closed : {text l : List ℕ} {next closing : ℕ} → At text l next → true ≡ eqb (first (drop next text)) closing → 0 < closing
     → At text (closing ∷ drop (next + 1) text) (next + 1 - 1)
 begin_closed {text} {l} {next} {closing} p e k =
-    let f = eqb-true _ _ (sym e) in
+    let f = eqb-true (first (drop next text)) closing (sym e) in
     let same : next + 1 - 1 ≡ next = omega arith in
     rw same (record { inside = p.inside; behind = drop-cons text next 0 (first_inside text next closing f k) ∙ rw (first_there text next, f, add-one) })
 
@@ -141,14 +152,14 @@ go_on turns end g part more rest l e m d = rw (e, m, d)
 pub record Begins {P : Type 0} (opening closing : ℕ) (turns : ℕ → P → List ℕ → Got P) (p : P) (whole : Got P) (l : List ℕ) : Type 0 where
   pub is : whole ≡ follow (open_there opening l) (λ z rest. cond (eqb (first (blanks rest)) closing) (got p (drop 1 (blanks rest))) (turns (length rest) p rest))
 
-module _ {P : Type 0} {text : List ℕ} {turns : ℕ → P → List ℕ → Got P} {whole : Got P} {from opening closing code at : ℕ} {more : Bool} {p : P}
-    (b : Begins opening closing turns p whole (drop from text))
-    (told : Tells text from (λ b. more ≡ b) (begin_there opening closing (drop from text)) code at) where
-  pub begin_stopped : {before : ℕ} {Is : P → Type 0} → (code ≡ 0 → ⊥) → Tells text before Is whole code at
-  begin_stopped h = rw (b.is, begin_is opening closing turns p (drop from text)) (handed_on _ told h)
+module _ {P : Type 0} {text : List ℕ} {turns : ℕ → P → List ℕ → Got P} {whole : Got P} {from opening closing code at : ℕ} {p : P}
+    (b : Begins opening closing turns p whole (drop from text)) where
+  pub begin_stopped : {Is₀ : Bool → Type 0} → Tells text from Is₀ (begin_there opening closing (drop from text)) code at
+      → {before : ℕ} {Is : P → Type 0} → (code ≡ 0 → ⊥) → Tells text before Is whole code at
+  begin_stopped told h = rw (b.is, begin_is opening closing turns p (drop from text)) (handed_on _ told h)
 
-  pub begin_turning : code ≡ 0 → Turning text turns whole from at more p
-  begin_turning z =
+  pub begin_turning : {more : Bool} → Tells text from (λ b. more ≡ b) (begin_there opening closing (drop from text)) code at → code ≡ 0 → Turning text turns whole from at more p
+  begin_turning told z =
       let c = came told z in
       record {
         left = length (drop at text);
@@ -184,16 +195,16 @@ module _ {P A : Type 0} {turns : ℕ → P → List ℕ → Got P} {item : P →
       → (code ≡ 0 → ⊥) → Tells text before Is' whole code past
   item_stopped told h = rw next.same (handed_on _ told h)
 
-  module _ {past : ℕ} {Is : A → Type 0} (c : Came text at Is (item p (drop at text)) past) {more : Bool} {code end : ℕ}
-      (told : Tells text past (λ b. more ≡ b) (more_there bracket (drop past text)) code end) where
+  module _ {past : ℕ} {Is : A → Type 0} (c : Came text at Is (item p (drop at text)) past) where
     behind : whole ≡ onward bracket (turns next.left) (add p c.part) (drop past text)
     behind = next.same ∙ rw (c.got_it, c.place.behind)
 
-    pub more_stopped : {before : ℕ} {Is' : P → Type 0} → (code ≡ 0 → ⊥) → Tells text before Is' whole code end
-    more_stopped h = rw behind (handed_on _ told h)
+    pub more_stopped : {code end : ℕ} {Is₀ : Bool → Type 0} → Tells text past Is₀ (more_there bracket (drop past text)) code end
+        → {before : ℕ} {Is' : P → Type 0} → (code ≡ 0 → ⊥) → Tells text before Is' whole code end
+    more_stopped told h = rw behind (handed_on _ told h)
 
-    pub turning : code ≡ 0 → Turning text turns whole from end more (add p c.part)
-    turning z =
+    pub turning : {code end : ℕ} {more : Bool} → Tells text past (λ b. more ≡ b) (more_there bracket (drop past text)) code end → code ≡ 0 → Turning text turns whole from end more (add p c.part)
+    turning told z =
         let d = came told z in
         let n = next.enough in
         record {

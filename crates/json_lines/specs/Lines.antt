@@ -1,6 +1,7 @@
 -- The lines of a filter, written as entries while they are read: the reader's parts as the code takes them, and what then stands in a buffer.
 -- Needs no belief.
-use Rattle.std.specs.Prelude.{ℕ, ◌+◌, ◌-◌, ◌*◌, ◌≤◌, ◌<◌, ◌≡◌, Bool, true, false, cond, List, [], ◌∷◌, ◌++◌, eqb, length, take, drop}
+use Rattle.std.specs.Prelude.{ℕ, ◌+◌, ◌-◌, ◌*◌, ◌≤◌, ◌<◌, ◌≡◌, Bool, true, false, cond, None, Some, IsSomeAnd, List, [], ◌∷◌, ◌++◌, eqb, length, take, drop}
+use Rattle.std.specs.Prelude as given
 use Rattle.std.proofs.Math.Option.{Option, none, some}
 use Rattle.definitions.specs.Word.{bytes_of}
 use Rattle.definitions.specs.RuleSet.{Rule, Entry}
@@ -12,9 +13,8 @@ use Rattle.definitions.specs.CallNames.{Slot, number_for}
 use Rattle.definitions.specs.Collected.{rules_of_args, numbered}
 use Rattle.json_theorems.specs.Turns.{open_there, field_there, colon_there}
 use Rattle.json_scan.specs.Scan.{At}
-use Rattle.json_lines.specs.declared.LinesRead.{LinesRead}
+use Rattle.json_lines.specs.declared.Lines.{Lines}
 use Rattle.json_lines.specs.declared.LineRead.{LineRead}
-use Rattle.json_lines.specs.declared.EntryRead.{EntryRead}
 
 -- ---- the reader's parts
 
@@ -44,7 +44,7 @@ fields_there j = object_there (λ ts k. field_judge ts (field_of line_keys k)) (
 
 -- whether the key of a field was given
 unfoldable pub seen_in : LineRead → ℕ → Bool
-seen_in line f = cond (eqb f 0) line.called (cond (eqb f 1) line.given line.remarked)
+seen_in line f = cond (eqb f 0) (given.is_some line.number) (cond (eqb f 1) (given.is_some line.args) line.commented)
 
 -- ---- what was written
 
@@ -55,69 +55,69 @@ pub record Conditions (raw₀ raw : List ℕ) (spot count : ℕ) (q : Rule) : Ty
   pub fits : 0 < count → spot + 24 * count ≤ length raw₀
 
 -- args that were read: no rule, or one with its conditions
-abbrev pub ArgsOf : List ℕ → List ℕ → ℕ → Bool → ℕ → Option Rule → Type 0
-ArgsOf raw₀ raw spot ruled count none = (ruled ≡ false) × (take spot raw ≡ take spot raw₀)
-ArgsOf raw₀ raw spot ruled count (some q) = (ruled ≡ true) × (0 < count) × Conditions raw₀ raw spot count q
+abbrev pub ArgsOf : List ℕ → List ℕ → ℕ → given.Option ℕ → Option Rule → Type 0
+ArgsOf raw₀ raw spot conditions none = (conditions ≡ None) × (take spot raw ≡ take spot raw₀)
+ArgsOf raw₀ raw spot conditions (some q) = IsSomeAnd conditions (λ count. (0 < count) × Conditions raw₀ raw spot count q)
 
 -- ---- what is known of a line by the fields that were read
 
-abbrev pub CallIs : List Slot → Bool → ℕ → Option LinePart → Type 0
-CallIs slots called number none = called ≡ false
-CallIs slots called number (some (the_call s)) = (called ≡ true) × (number_for slots s ≡ some number)
-CallIs slots called number (some (the_args r)) = ⊥
-CallIs slots called number (some (the_remark c)) = ⊥
+abbrev pub CallIs : List Slot → given.Option ℕ → Option LinePart → Type 0
+CallIs slots number none = number ≡ None
+CallIs slots number (some (the_call s)) = IsSomeAnd number (λ n. number_for slots s ≡ some n)
+CallIs slots number (some (the_args r)) = ⊥
+CallIs slots number (some (the_remark c)) = ⊥
 
 -- conditions stand behind the twelve bytes of their entry and rule
 pub record Stand (raw : List ℕ) (spot count : ℕ) (q : Rule) : Type 0 where
   pub counted : count ≡ length q
   pub written : take (24 * count) (drop (spot + 12) raw) ≡ joined encode_condition q
 
-abbrev pub RuleIs : List ℕ → ℕ → Bool → ℕ → Option Rule → Type 0
-RuleIs raw spot ruled count none = ruled ≡ false
-RuleIs raw spot ruled count (some q) = (ruled ≡ true) × Stand raw spot count q
+abbrev pub RuleIs : List ℕ → ℕ → given.Option ℕ → Option Rule → Type 0
+RuleIs raw spot conditions none = conditions ≡ None
+RuleIs raw spot conditions (some q) = IsSomeAnd conditions (λ count. Stand raw spot count q)
 
-abbrev pub ArgsAre : List ℕ → ℕ → Bool → Bool → ℕ → Option LinePart → Type 0
-ArgsAre raw spot given ruled count none = (given ≡ false) × RuleIs raw spot ruled count none
-ArgsAre raw spot given ruled count (some (the_call s)) = ⊥
-ArgsAre raw spot given ruled count (some (the_args r)) = (given ≡ true) × RuleIs raw spot ruled count r
-ArgsAre raw spot given ruled count (some (the_remark c)) = ⊥
+abbrev pub ArgsAre : List ℕ → ℕ → given.Option (given.Option ℕ) → Option LinePart → Type 0
+ArgsAre raw spot args none = args ≡ None
+ArgsAre raw spot args (some (the_call s)) = ⊥
+ArgsAre raw spot args (some (the_args r)) = IsSomeAnd args (λ conditions. RuleIs raw spot conditions r)
+ArgsAre raw spot args (some (the_remark c)) = ⊥
 
 abbrev pub RemarkIs : Bool → Option LinePart → Type 0
-RemarkIs remarked none = remarked ≡ false
-RemarkIs remarked (some (the_call s)) = ⊥
-RemarkIs remarked (some (the_args r)) = ⊥
-RemarkIs remarked (some (the_remark c)) = remarked ≡ true
+RemarkIs commented none = commented ≡ false
+RemarkIs commented (some (the_call s)) = ⊥
+RemarkIs commented (some (the_args r)) = ⊥
+RemarkIs commented (some (the_remark c)) = commented ≡ true
 
 -- in front of the line's entry all is as it was
 pub record Holds (slots : List Slot) (raw₀ raw : List ℕ) (spot : ℕ) (line : LineRead) (ts : List (Typed LinePart)) : Type 0 where
-  pub call : CallIs slots line.called line.number (value_of 0 ts)
-  pub args : ArgsAre raw spot line.given line.ruled line.count (value_of 1 ts)
-  pub remark : RemarkIs line.remarked (value_of 2 ts)
+  pub call : CallIs slots line.number (value_of 0 ts)
+  pub args : ArgsAre raw spot line.args (value_of 1 ts)
+  pub remark : RemarkIs line.commented (value_of 2 ts)
   pub front : take spot raw ≡ take spot raw₀
 
 -- the whole object was read: a brace stands in front of the place
-pub record Known (slots : List Slot) (text raw₀ raw : List ℕ) (spot : ℕ) (line : LineRead) (ts : List (Typed LinePart)) : Type 0 where
+pub record Known (slots : List Slot) (text raw₀ raw : List ℕ) (spot past : ℕ) (line : LineRead) (ts : List (Typed LinePart)) : Type 0 where
   pub holds : Holds slots raw₀ raw spot line ts
-  pub brace : At text (0x7d ∷ drop line.at text) (line.at - 1)
+  pub brace : At text (0x7d ∷ drop past text) (past - 1)
 
 -- an entry, and its rule if it has one, in front of the rule's conditions
-abbrev pub head_bytes : ℕ → Bool → ℕ → List ℕ
-head_bytes number true count = bytes_of 4 number ++ (bytes_of 4 1 ++ bytes_of 4 count)
-head_bytes number false count = bytes_of 4 number ++ bytes_of 4 0
+abbrev pub head_bytes : ℕ → given.Option ℕ → List ℕ
+head_bytes number (Some count) = bytes_of 4 number ++ (bytes_of 4 1 ++ bytes_of 4 count)
+head_bytes number None = bytes_of 4 number ++ bytes_of 4 0
 
-abbrev pub entry_size : Bool → ℕ → ℕ
-entry_size true count = 12 + 24 * count
-entry_size false count = 8
+abbrev pub entry_size : given.Option ℕ → ℕ
+entry_size (Some count) = 12 + 24 * count
+entry_size None = 8
 
 -- the entry of a line stands behind what stood in front of a place
-pub record Written (slots : List Slot) (raw₀ raw : List ℕ) (spot : ℕ) (r : EntryRead) (line : Line) : Type 0 where
+pub record Written (slots : List Slot) (raw₀ raw : List ℕ) (spot past : ℕ) (line : Line) : Type 0 where
   pub number : ℕ
   pub named : number_for slots line.call ≡ some number
-  pub end : r.end ≡ spot + length (encode_entry (record { number = number; rules = rules_of_args line.args }))
-  pub written : take r.end raw ≡ take spot raw₀ ++ encode_entry (record { number = number; rules = rules_of_args line.args })
+  pub end : past ≡ spot + length (encode_entry (record { number = number; rules = rules_of_args line.args }))
+  pub written : take past raw ≡ take spot raw₀ ++ encode_entry (record { number = number; rules = rules_of_args line.args })
 
 -- the entries of lines stand at the front of a buffer
-pub record Entries (slots : List Slot) (raw : List ℕ) (r : LinesRead) (lines : List Line) : Type 0 where
+pub record Entries (slots : List Slot) (raw : List ℕ) (r : Lines) (lines : List Line) : Type 0 where
   pub entries : List Entry
   pub made : numbered slots lines ≡ some entries
   pub written : take r.end raw ≡ joined encode_entry entries

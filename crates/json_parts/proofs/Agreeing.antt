@@ -2,7 +2,7 @@
 use mathlib.Core.Path.{◌≡◌, refl, ap, sym, ◌∙◌}
 use mathlib.Core.Bool.{Bool, true, false, cond, ◌&&◌}
 use mathlib.Core.List.{List, [], ◌∷◌}
-use mathlib.Core.Option.{none, some}
+use mathlib.Core.Option.{Option, none, some}
 use Prim.Native.Nat.{ℕ, suc, ◌+◌, ◌≤◌}
 use native.Mathlib.Omega.{arith}
 use lib.Dec.{eqb, leb}
@@ -120,9 +120,9 @@ module _ (text : List ℕ) (at : ℕ) where
   unfolding null_or
   comment_is e = rw (first_at text at, ne_eqb _ _ e)
 
-  pub a_string_lem : {code place : ℕ} → (get_or text at 0 ≡ 0x6e → ⊥) → Tells text at (λ s. Unit {0}) (string_there (drop at text)) code place
-      → Tells text at (λ c. Unit {0}) (null_or string_there (drop at text)) code place
-  a_string_lem e t = rw (comment_is e) (put_in some (λ s u. u) t)
+  pub a_string_lem : {Is : List ℕ → Type 0} {Is' : Option (List ℕ) → Type 0} {code place : ℕ} → (get_or text at 0 ≡ 0x6e → ⊥) → ((s : List ℕ) → Is s → Is' (some s))
+      → Tells text at Is (string_there (drop at text)) code place → Tells text at Is' (null_or string_there (drop at text)) code place
+  a_string_lem e f t = rw (comment_is e) (put_in some f t)
 
   module _ (e : get_or text at 0 ≡ 0x6e) (n : ℕ) (en : n ≡ agree (ascii "null") (drop at text)) where
     pub null_on : at ≤ length text → at + n ≤ length text

@@ -1,5 +1,5 @@
 -- Numbers that are digits alone, told by places. Assumes nothing.
-use mathlib.Core.Path.{◌≡◌, refl, ap, sym, ◌∙◌}
+use mathlib.Core.Path.{◌≡◌, refl, sym, ◌∙◌}
 use mathlib.Core.Bool.{Bool, true, false, ◌||◌}
 use mathlib.Core.List.{List, ◌++◌}
 use mathlib.Core.Option.{Option, none, some}
@@ -14,12 +14,12 @@ use Rattle.definitions.specs.Json.{is_digit, number, Number, spelled, Whole, nou
 use Rattle.definitions.specs.JsonForm.{natural}
 use Rattle.definitions.specs.JsonReader.{got, stop, not_json, sign_count, whole_count, fraction_count, exponent_count, number_count, bad_exponent, bad_fraction, bad_whole, bad_number}
 use Rattle.definitions.specs.FormReader.{not_of_form, wrong, number_there, made, answered, judged, natural_there}
-use Rattle.json_theorems.proofs.Tests.{false_not_true, none_not_some}
+use Rattle.json_theorems.proofs.Tests.{none_not_some}
 use Rattle.json_theorems.proofs.Numbers.{number_sound}
-use Rattle.json_scan.specs.declared.Place.{Place}
-use Rattle.json_scan.specs.Scan.{At}
-use Rattle.json_numbers.specs.declared.Natural.{Natural}
-use Rattle.json_numbers.specs.Counts.{stuck_exponent, stuck_fraction, stuck_whole, stuck_at, Ended, Is}
+use Rattle.std.specs.Prelude.{Some, None, Ok, Err}
+use Rattle.json_scan.specs.Scan.{At, option_of}
+use Rattle.json_scan.proofs.Scanning.{option_none, option_some}
+use Rattle.json_numbers.specs.Counts.{stuck_exponent, stuck_fraction, stuck_whole, stuck_at, Ended}
 use Rattle.json_numbers.proofs.Counting.{first_at}
 use Rattle.json_parts.proofs.Places.{further}
 
@@ -63,34 +63,31 @@ pub record Counted (l : List ℕ) (from at : ℕ) : Type 0 where
   pub long : 1 ≤ count
   pub place : at ≡ from + count
 
-pub counted : (l : List ℕ) (from : ℕ) (p : Place) → Ended (number_count l) l from p → p.ok ≡ true → Counted l from p.at
-counted l from p e ok = go (number_count l) refl e
+pub counted : (l : List ℕ) (from at : ℕ) → Ended (number_count l) l from (Ok at) → Counted l from at
+counted l from at e = go (number_count l) refl e
   where
-    go : (o : Option ℕ) → number_count l ≡ o → Ended o l from p → Counted l from p.at
-    go none f t = absurd (false_not_true (sym t.0 ∙ ok))
-    go (some n) f t = record { count = n; is = f; long = count_long l n f; place = t.1 }
+    go : (o : Option ℕ) → number_count l ≡ o → Ended o l from (Ok at) → Counted l from at
+    go none f t = cc
+    go (some n) f t = record { count = n; is = f; long = count_long l n f; place = cc }
 
 pub record Stuck (l : List ℕ) (from at : ℕ) : Type 0 where
   pub is : number_count l ≡ none
   pub place : at ≡ from + stuck_at l
 
-pub stuck : (l : List ℕ) (from : ℕ) (p : Place) → Ended (number_count l) l from p → p.ok ≡ false → Stuck l from p.at
-stuck l from p e ok = go (number_count l) refl e
+pub stuck : (l : List ℕ) (from at : ℕ) → Ended (number_count l) l from (Err at) → Stuck l from at
+stuck l from at e = go (number_count l) refl e
   where
-    go : (o : Option ℕ) → number_count l ≡ o → Ended o l from p → Stuck l from p.at
-    go none f t = record { is = f; place = t.1 }
-    go (some n) f t = absurd (false_not_true (sym ok ∙ t.0))
+    go : (o : Option ℕ) → number_count l ≡ o → Ended o l from (Err at) → Stuck l from at
+    go none f t = record { is = f; place = cc }
+    go (some n) f t = cc
 
 pub bad_place_lem : (text : List ℕ) (from at : ℕ) → Stuck (drop from text) from at → at ≤ length text → At text (bad_number (drop from text)) at
 bad_place_lem text from at s h = rw (stuck_is (drop from text) s.is, s.place) (further text from (stuck_at (drop from text)) (let e = s.place in omega arith))
 
 -- ---- a number that is asked for
 
-abbrev numeric : ℕ → Bool
+abbrev pub numeric : ℕ → Bool
 numeric b = eqb b 0x2d || is_digit b
-
-pub numeric_is : (text : List ℕ) (at b : ℕ) (d t : Bool) → b ≡ get_or text at 0 → d ≡ is_digit b → t ≡ (eqb b 0x2d || d) → numeric (get_or text at 0) ≡ t
-numeric_is text at b d t eb ed et = rw (← eb, ← ed, ← et)
 
 pub past_place : (text : List ℕ) (at past : ℕ) → Counted (drop at text) at past → past ≤ length text → At text (drop (past - at) (drop at text)) past
 past_place text at past s h =
@@ -114,17 +111,8 @@ module _ (most : ℕ) (text : List ℕ) (at : ℕ) where
     unfolding natural_there judged number_there natural
     natural_is = rw (first_at text at, e, s.is, taken)
 
-    pub natural_refused : (r : Natural) → Is (natural most (number (take (past - at) (drop at text)))) r → r.ok ≡ false → natural_there most (drop at text) ≡ stop not_of_form (drop at text)
-    natural_refused r i ok = natural_is ∙ go (natural most (number (take (past - at) (drop at text)))) i
-      where
-        go : (o : Option ℕ) → Is o r → answered (made o) (drop at text) (drop (past - at) (drop at text)) ≡ stop not_of_form (drop at text)
-        go none t = refl
-        go (some n) t = absurd (false_not_true (sym ok ∙ t.0))
+    pub natural_refused : None ≡ option_of (natural most (number (take (past - at) (drop at text)))) → natural_there most (drop at text) ≡ stop not_of_form (drop at text)
+    natural_refused r = natural_is ∙ rw (option_none r)
 
-    pub natural_read : (r : Natural) → Is (natural most (number (take (past - at) (drop at text)))) r → r.ok ≡ true
-        → natural_there most (drop at text) ≡ got r.value (drop (past - at) (drop at text))
-    natural_read r i ok = natural_is ∙ go (natural most (number (take (past - at) (drop at text)))) i
-      where
-        go : (o : Option ℕ) → Is o r → answered (made o) (drop at text) (drop (past - at) (drop at text)) ≡ got r.value (drop (past - at) (drop at text))
-        go none t = absurd (false_not_true (sym t ∙ ok))
-        go (some n) t = ap (λ (v : ℕ). got v (drop (past - at) (drop at text))) (sym t.1)
+    pub natural_read : (v : ℕ) → Some v ≡ option_of (natural most (number (take (past - at) (drop at text)))) → natural_there most (drop at text) ≡ got v (drop (past - at) (drop at text))
+    natural_read v r = natural_is ∙ rw (option_some r)

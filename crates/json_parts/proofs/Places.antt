@@ -17,7 +17,9 @@ use Rattle.json_theorems.proofs.Strings.{string_sound}
 use Rattle.json_theorems.proofs.Parts.{blanks_sound}
 use Rattle.json_numbers.proofs.Counting.{first_at}
 use Rattle.json_scan.specs.Scan.{At, Either, Tells}
-use Rattle.json_scan.proofs.Telling.{told_earlier}
+use Rattle.json_scan.specs.Telling.{code_of}
+use Rattle.json_scan.specs.declared.Refusal.{Refusal}
+use Rattle.json_scan.proofs.Telling.{refused, told_earlier}
 use Rattle.json_theorems.specs.Turns.{key_string}
 
 -- ---- what is told
@@ -29,6 +31,11 @@ tells_got {text = text} {from} {code} {at} {Is} {g} {a} {rest} e c f p v = recor
 pub tells_stop : {A : Type 0} {text : List ℕ} {from code at k : ℕ} {Is : A → Type 0} {g : Got A} {rest : List ℕ}
     → g ≡ stop k rest → code ≡ k → 0 < code → At text rest at → Tells text from Is g code at
 tells_stop {text = text} {from} {code} {at} {k} {Is} {g} {rest} e c f p = record { tells = rw e (record { told = c; some = (omega arith); place = p }) }
+
+-- a fault by its refusal
+pub tells_refused : {A : Type 0} {text : List ℕ} {from at k : ℕ} {Is : A → Type 0} {g : Got A} {rest : List ℕ} (w : Refusal)
+    → g ≡ stop k rest → code_of w ≡ k → At text rest at → Tells text from Is g (code_of w) at
+tells_refused w e c p = tells_stop e c (omega (arith, refused w)) p
 
 -- what was read is put into something else
 pub put_in : {A B : Type 0} {text : List ℕ} {from code at : ℕ} {Is : A → Type 0} {Is' : B → Type 0} (add : A → B) {g : Got A}

@@ -4,6 +4,10 @@ use mathlib.Core.Path.{◌≡◌, refl, ap, sym, ◌∙◌}
 use mathlib.Core.Bool.{Bool, true, false, cond, ◌&&◌}
 use mathlib.Core.List.{List, [], ◌∷◌, ◌++◌}
 use mathlib.Core.Option.{some}
+use Rattle.std.specs.Prelude.{Some}
+use Rattle.json_scan.specs.Scan.{option_of}
+use Rattle.json_parts.specs.declared.Object.{Object}
+use Rattle.json_parts.specs.declared.Object.TheVariants.{Condition, Line, Filter}
 use Prim.Native.Nat.{ℕ, zero, suc, ◌≤◌}
 use Prim.Native.String.{String}
 use native.Mathlib.Omega.{arith}
@@ -19,7 +23,7 @@ use Rattle.json_theorems.proofs.Tests.{false_not_true, both_true}
 use Rattle.json_theorems.proofs.Values.{same_true}
 use Rattle.json_parts.specs.declared.Word.{Word}
 use Rattle.json_parts.specs.Kinds.{keys_of}
-use Rattle.json_parts.specs.Words.{filled, low_of, high_of, Packs, is_word, fits, keys_fit, one_more, field_in}
+use Rattle.json_parts.specs.Words.{filled, low_of, high_of, Packs, is_word, fits, keys_fit, field_in}
 
 length_filled : (s : List ℕ) → length (filled s) ≡ 16
 length_filled s = rw (length-take 16 (s ++ replicate 16 0), length-append s (replicate 16 0), length-replicate {A = ℕ} 16 0) (omega arith)
@@ -80,19 +84,19 @@ pub is_word_lem : (w : String) (s : List ℕ) (r : Word) → fits (ascii w) ≡ 
     → same (ascii w) s ≡ (eqb r.count (length (ascii w)) && (eqb r.low (low_of (ascii w)) && eqb r.high (high_of (ascii w))))
 is_word_lem w s r f p = told (ascii w) s r f p
 
-pub field_in_lem : (keys : List Key) (s : List ℕ) (r : Word) → keys_fit keys ≡ true → Packs s r → field_in keys r ≡ one_more (field_of keys s)
+pub field_in_lem : (keys : List Key) (s : List ℕ) (r : Word) → keys_fit keys ≡ true → Packs s r → field_in keys r ≡ option_of (field_of keys s)
 unfolding keys_fit
 field_in_lem [] s r f p = refl
 field_in_lem (x ∷ xs) s r f p =
     let a = both_true (fits (ascii x.word)) (keys_fit xs) f in
     rw (← told (ascii x.word) s r a.0 p, field_in_lem xs s r a.1 p) (go (same (ascii x.word) s))
   where
-    go : (t : Bool) → cond t (suc x.field) (one_more (field_of xs s)) ≡ one_more (cond t (some x.field) (field_of xs s))
+    go : (t : Bool) → cond t (Some x.field) (option_of (field_of xs s)) ≡ option_of (cond t (some x.field) (field_of xs s))
     go true = refl
     go false = refl
 
-pub kinds_fit : (kind : ℕ) → keys_fit (keys_of kind) ≡ true
+pub kinds_fit : (object : Object) → keys_fit (keys_of object) ≡ true
 unfolding keys_fit fits all ascii keys_of
-kinds_fit zero = refl
-kinds_fit (suc zero) = refl
-kinds_fit (suc (suc n)) = refl
+kinds_fit Condition = refl
+kinds_fit Line = refl
+kinds_fit Filter = refl

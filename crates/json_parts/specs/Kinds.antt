@@ -1,9 +1,10 @@
--- The kinds of object that the form has, by a number, with their keys. Needs no belief.
-use Rattle.std.specs.Prelude.{ℕ, zero, suc, List}
+-- The objects that the form has, with their keys. Needs no belief.
+use Rattle.std.specs.Prelude.{List}
 use Rattle.definitions.specs.JsonForm.{Key, condition_keys, line_keys, filter_keys}
+use Rattle.json_parts.specs.declared.Object.{Object}
+use Rattle.json_parts.specs.declared.Object.TheVariants.{Condition, Line, Filter}
 
--- 0 a condition's, 1 a line's, 2 a filter's
-unfoldable pub keys_of : ℕ → List Key
-keys_of zero = condition_keys
-keys_of (suc zero) = line_keys
-keys_of (suc (suc n)) = filter_keys
+unfoldable pub keys_of : Object → List Key
+keys_of Condition = condition_keys
+keys_of Line = line_keys
+keys_of Filter = filter_keys

@@ -1,7 +1,6 @@
 -- Strings kept as numbers: the first 16 bytes, filled up with zeros, as two numbers of eight bytes, lowest byte first, and how many bytes
 -- there are. By them a word is compared at once. Needs no belief: `Words` in proofs says that they tell words apart.
-use Rattle.std.specs.Prelude.{ℕ, zero, suc, ◌≡◌, Bool, true, cond, ◌&&◌, List, [], ◌∷◌, ◌++◌, eqb, leb, length, take, replicate}
-use Rattle.std.proofs.Math.Option.{Option, none, some}
+use Rattle.std.specs.Prelude.{ℕ, ◌≡◌, Bool, true, cond, ◌&&◌, List, [], ◌∷◌, ◌++◌, eqb, leb, length, take, replicate, Option, Some, None}
 use Rattle.definitions.specs.Word.{number_at, AreBytes}
 use Rattle.definitions.specs.Json.{ascii, all}
 use Rattle.definitions.specs.JsonForm.{Key}
@@ -24,9 +23,7 @@ pub record Packs (s : List ℕ) (r : Word) : Type 0 where
   pub bytes : AreBytes (filled s)
 
 -- the word that 16 bytes keep
-pub record Keeps (kept : List ℕ) (count at : ℕ) (r : Word) : Type 0 where
-  pub fine : r.code ≡ 0
-  pub place : r.at ≡ at
+pub record Keeps (kept : List ℕ) (count : ℕ) (r : Word) : Type 0 where
   pub counted : r.count ≡ count
   pub low : r.low ≡ number_at 8 kept 0
   pub high : r.high ≡ number_at 8 kept 8
@@ -44,12 +41,7 @@ unfoldable pub keys_fit : List Key → Bool
 keys_fit [] = true
 keys_fit (x ∷ xs) = fits (ascii x.word) && keys_fit xs
 
--- one more than a number; 0 stands for none
-abbrev pub one_more : Option ℕ → ℕ
-one_more none = zero
-one_more (some n) = suc n
-
--- one more than the field of a key that is kept so, 0 where the key is none
-abbrev pub field_in : List Key → Word → ℕ
-field_in [] r = zero
-field_in (x ∷ xs) r = cond (is_word (ascii x.word) r) (suc x.field) (field_in xs r)
+-- the field of a key that is kept so
+abbrev pub field_in : List Key → Word → Option ℕ
+field_in [] r = None
+field_in (x ∷ xs) r = cond (is_word (ascii x.word) r) (Some x.field) (field_in xs r)

@@ -1,62 +1,36 @@
 // The parts that every object of the form is read by: brackets, keys, colons, commas; strings that are skipped or kept as words, and numbers.
 #![tactic(auto)]
 
-ghost use Rattle.std.specs.Prelude.{◌≡◌, ◌&&◌, ◌||◌, cond, ◌≤◌, ◌<◌, eqb, length, drop, get_or};
+ghost use Rattle.std.specs.Prelude.{◌≡◌, ◌&&◌, ◌||◌, ◌≤◌, ◌<◌, eqb, length, drop, get_or, IfSome};
 ghost use Rattle.definitions.specs.Json.{ascii, quote, is_digit, hex_digit};
 ghost use Rattle.definitions.specs.JsonForm.{condition_keys, line_keys, filter_keys};
-ghost use Rattle.definitions.specs.JsonReader.{hex_value, is_second, plain_bad, escape_bad, bad_character, placed, string_at};
+ghost use Rattle.definitions.specs.JsonReader.{is_second, plain_bad, escape_bad, bad_character, placed, string_at};
 ghost use Rattle.definitions.specs.FormReader.{wrong, string_there, natural_there, null_or};
 ghost use Rattle.json_theorems.specs.Turns.{open_there, field_there, colon_there, more_there};
-ghost use Rattle.json_scan.specs.Scan.{At, Tells};
+ghost use Rattle.json_scan.specs.Scan.{At, option_of};
+ghost use Rattle.json_scan.specs.Telling.{Reads, code_of};
+ghost use Rattle.json_scan.specs.declared.Refusal.TheVariants.{NotJson};
 ghost use Rattle.json_parts.specs.Kinds.{keys_of};
 ghost use Rattle.json_parts.specs.Words.{Packs, Keeps, field_in};
 ghost use Rattle.json_theorems.specs.Turns.{key_string};
 ghost use Rattle.json_parts.specs.Agreeing.{agree};
 
-// What was read from a place on: 0, the place behind it and the number that it stands for; or the number of the fault, and its place.
-#[derive(Clone, Copy)]
-pub struct Step {
-    pub code: u32,
-    pub at: usize,
-    pub value: u64,
-}
-
-// What stands behind a value: more, or the end.
-#[derive(Clone, Copy)]
-pub struct More {
-    pub code: u32,
-    pub at: usize,
-    pub more: bool,
-}
+use json_scan::{Misread, Read, Reading, Refusal};
 
 // A string of which the first 16 bytes are kept as two numbers, lowest byte first, and all are counted.
-#[derive(Clone, Copy)]
+#[derive(Clone, Copy, Debug, PartialEq, Eq)]
 pub struct Word {
-    pub code: u32,
-    pub at: usize,
     pub count: usize,
     pub low: u64,
     pub high: u64,
 }
 
-// One of two numbers.
-fn pick(first: bool, a: u64, b: u64) -> u64
-    ensures { result ≡ cond first a b }
-{
-    if first {
-        return a;
-    }
-    b
-}
-
-// One of two answers.
-fn choose(first: bool, a: bool, b: bool) -> bool
-    ensures { result ≡ cond first a b }
-{
-    if first {
-        return a;
-    }
-    b
+// The objects that the form has.
+#[derive(Clone, Copy, Debug, PartialEq, Eq)]
+pub enum Object {
+    Condition,
+    Line,
+    Filter,
 }
 
 // ---- faults
@@ -65,197 +39,178 @@ fn choose(first: bool, a: bool, b: bool) -> bool
 fn begins_value(b: u8) -> bool
     ensures { result ≡ (eqb b quote || (eqb b 0x7b || (eqb b 0x5b || (eqb b 0x2d || (is_digit b || (eqb b 0x6e || (eqb b 0x74 || eqb b 0x66))))))) }
 {
-    json_scan::either(
-        b == 0x22,
-        json_scan::either(
-            b == 0x7b,
-            json_scan::either(
-                b == 0x5b,
-                json_scan::either(
-                    b == 0x2d,
-                    json_scan::either(
-                        json_numbers::is_digit(b),
-                        json_scan::either(b == 0x6e, json_scan::either(b == 0x74, b == 0x66)),
-                    ),
-                ),
-            ),
-        ),
+    matches!(
+        b,
+        b'"' | b'{' | b'[' | b'-' | b'0'..=b'9' | b'n' | b't' | b'f'
     )
 }
 
 // The fault where a value of another kind is asked for.
-fn wrong_at(text: &[u8], at: usize) -> u32
-    ensures { (result ≡ wrong (drop at text.now)) × (0 < result) }
+fn wrong_at(text: &[u8], at: usize) -> Refusal
+    ensures { code_of result ≡ wrong (drop at text.now) }
 {
     if begins_value(json_scan::byte(text, at)) {
-        return 11;
+        Refusal::NotOfForm
+    } else {
+        Refusal::NotJson
     }
-    10
+}
+
+// No JSON text goes on so.
+fn not_json(at: usize) -> Misread
+    ensures { result ≡ record { why = NotJson; at = at } }
+{
+    Misread {
+        why: Refusal::NotJson,
+        at,
+    }
 }
 
 // Whether a byte can follow the first one of a character of several.
+#[tactic(auto, using(std::proofs::lemmas::Bool::Decides::nat_tests), unfolding(definitions::specs::JsonReader::is_second))]
 fn is_second(a: u8, b: u8) -> bool
     ensures { result ≡ is_second a b }
 {
-    let x = json_scan::wide(b);
-    choose(
-        a == 0xe0,
-        json_scan::within(0xa0, 0xbf, x),
-        choose(
-            a == 0xed,
-            json_scan::within(0x80, 0x9f, x),
-            choose(
-                a == 0xf0,
-                json_scan::within(0x90, 0xbf, x),
-                choose(
-                    a == 0xf4,
-                    json_scan::within(0x80, 0x8f, x),
-                    json_scan::within(0x80, 0xbf, x),
-                ),
-            ),
-        ),
-    )
+    match a {
+        0xe0 => matches!(b, 0xa0..=0xbf),
+        0xed => matches!(b, 0x80..=0x9f),
+        0xf0 => matches!(b, 0x90..=0xbf),
+        0xf4 => matches!(b, 0x80..=0x8f),
+        _ => matches!(b, 0x80..=0xbf),
+    }
 }
 
 // How many bytes of what is no character could begin one.
-fn plain_bad(text: &[u8], at: usize) -> u64
-    requires { (at ≤ length text.now) × (length text.now ≤ 1048576) }
+fn plain_bad(text: &[u8], at: usize) -> usize
+    requires { at ≤ length text.now }
     ensures { result ≡ plain_bad (drop at text.now) }
 {
     let a = json_scan::byte(text, at);
-    let b = json_scan::byte(text, at + 1);
-    let c = json_scan::byte(text, at + 2);
-    let lead = json_scan::within(0xc2, 0xf4, json_scan::wide(a));
-    let tail = json_scan::within(0x80, 0xbf, json_scan::wide(c));
-    pick(!lead, 0, pick(!is_second(a, b), 1, pick(!tail, 2, 3)))
+    if !matches!(a, 0xc2..=0xf4) {
+        0
+    } else if !is_second(a, json_scan::byte(text, at + 1)) {
+        1
+    } else if !matches!(json_scan::byte(text, at + 2), 0x80..=0xbf) {
+        2
+    } else {
+        3
+    }
 }
 
-// The value of the hexadecimal digit at a place; 16 where it is none.
-fn digit_at(text: &[u8], at: usize) -> u32
-    ensures { result ≡ hex_value (hex_digit (get_or text.now at 0)) }
+// The value of the hexadecimal digit at a place.
+fn digit_at(text: &[u8], at: usize) -> Option<u32>
+    ensures { (result ≡ option_of (hex_digit (get_or text.now at 0))) × IfSome result (λ d. d ≤ 15) }
 {
     json_scan::digit_of(json_scan::byte(text, at))
 }
 
-// How many bytes of an escape that is none could begin one. All are looked at, since this is asked at most once of a text.
-fn escape_bad(text: &[u8], at: usize) -> u64
-    requires { (at ≤ length text.now) × (length text.now ≤ 1048576) }
+// How many bytes of an escape that is none could begin one.
+fn escape_bad(text: &[u8], at: usize) -> usize
+    requires { at ≤ length text.now }
     ensures { result ≡ escape_bad (drop at text.now) }
 {
-    let lead = digit_at(text, at + 2);
-    let next = digit_at(text, at + 3);
-    let low_lead = digit_at(text, at + 8);
-    let low_next = digit_at(text, at + 9);
-    let low = json_scan::both(lead == 13, 12 <= next);
-    let second = pick(
-        !(low_lead == 13),
-        8,
-        pick(
-            !json_scan::within(12, 15, low_next),
-            9,
-            pick(16 <= digit_at(text, at + 10), 10, 11),
-        ),
-    );
-    let between = pick(
-        !(json_scan::byte(text, at + 6) == 0x5c),
-        6,
-        pick(!(json_scan::byte(text, at + 7) == 0x75), 7, second),
-    );
-    let first = pick(
-        16 <= digit_at(text, at + 4),
-        4,
-        pick(16 <= digit_at(text, at + 5), 5, between),
-    );
-    pick(
-        !(json_scan::byte(text, at + 1) == 0x75),
-        1,
-        pick(
-            16 <= lead,
-            2,
-            pick(json_scan::either(16 <= next, low), 3, first),
-        ),
-    )
+    if json_scan::byte(text, at + 1) != b'u' {
+        return 1;
+    }
+    let Some(lead) = digit_at(text, at + 2) else {
+        return 2;
+    };
+    let Some(next) = digit_at(text, at + 3) else {
+        return 3;
+    };
+    if lead == 13 && 12 <= next {
+        return 3;
+    }
+    if digit_at(text, at + 4).is_none() {
+        return 4;
+    }
+    if digit_at(text, at + 5).is_none() {
+        return 5;
+    }
+    if json_scan::byte(text, at + 6) != b'\\' {
+        return 6;
+    }
+    if json_scan::byte(text, at + 7) != b'u' {
+        return 7;
+    }
+    if digit_at(text, at + 8) != Some(13) {
+        return 8;
+    }
+    let Some(low) = digit_at(text, at + 9) else {
+        return 9;
+    };
+    if low < 12 {
+        return 9;
+    }
+    if digit_at(text, at + 10).is_none() {
+        return 10;
+    }
+    11
 }
 
 // The byte with which no character goes on, of one that is none.
 fn bad_character(text: &[u8], at: usize) -> usize
-    requires { (at ≤ length text.now) × (length text.now ≤ 1048576) }
+    requires { at ≤ length text.now }
     ensures { At text.now (bad_character (drop at text.now)) result }
 {
-    let n = pick(
-        json_scan::byte(text, at) == 0x5c,
-        escape_bad(text, at),
-        plain_bad(text, at),
-    );
-    let left = text.len() - at;
-    if n < left as u64 {
-        return at + n as usize;
-    }
-    text.len()
+    let n = if json_scan::byte(text, at) == b'\\' {
+        escape_bad(text, at)
+    } else {
+        plain_bad(text, at)
+    };
+    at + n.min(text.len() - at)
 }
 
 // ---- words
 
-// No word: a fault, and its place.
-fn fault(code: u32, at: usize) -> Word
-    ensures { (result.code ≡ code) × (result.at ≡ at) }
-{
-    Word {
-        code: code,
-        at: at,
-        count: 0,
-        low: 0,
-        high: 0,
-    }
-}
-
 // The word that 16 bytes keep.
-fn packed(kept: &[u8], count: usize, at: usize) -> Word
+fn packed(kept: &[u8], count: usize) -> Word
     requires { length kept.now ≡ 16 }
-    ensures { Keeps kept.now count at result }
+    ensures { Keeps kept.now count result }
 {
     Word {
-        code: 0,
-        at: at,
-        count: count,
+        count,
         low: bpf::u64_at(kept, 0),
         high: bpf::u64_at(kept, 8),
     }
 }
 
 // The string behind the quotation mark that begins it.
-fn word_behind(text: &[u8], at: usize) -> Word
-    requires { (at ≤ length text.now) × (length text.now ≤ 1048576) }
-    ensures { Tells text.now at (λ s. Packs s result) (placed bad_character (string_at (drop at text.now))) result.code result.at }
+fn word_behind(text: &[u8], at: usize) -> Reading<Word>
+    requires { at ≤ length text.now }
+    ensures { Reads text.now at Packs (placed bad_character (string_at (drop at text.now))) result }
 {
     let mut kept = [0u8; 16];
-    let d = json_strings::decode(text, at, &mut kept, 0);
-    let place = d.at;
-    let count = d.count;
-    if !d.ok {
-        return fault(10, bad_character(text, place));
+    match json_strings::decode(text, at, &mut kept, 0) {
+        Ok(word) => Ok(Read {
+            at: word.at,
+            value: packed(&kept, word.count),
+        }),
+        Err(wrong) => Err(not_json(bad_character(text, wrong))),
     }
-    packed(&kept, count, place)
 }
 
 // A string where a value stands.
-pub fn word_there(text: &[u8], at: usize) -> Word
-    requires { (at ≤ length text.now) × (length text.now ≤ 1048576) }
-    ensures { Tells text.now at (λ s. Packs s result) (string_there (drop at text.now)) result.code result.at }
+pub fn word_there(text: &[u8], at: usize) -> Reading<Word>
+    requires { at ≤ length text.now }
+    ensures { Reads text.now at Packs (string_there (drop at text.now)) result }
 {
-    if json_scan::byte(text, at) != 0x22 {
-        return fault(wrong_at(text, at), at);
+    if json_scan::byte(text, at) != b'"' {
+        return Err(Misread {
+            why: wrong_at(text, at),
+            at,
+        });
     }
     word_behind(text, at + 1)
 }
 
 // A string where a key stands.
-pub fn key_there(text: &[u8], at: usize) -> Word
-    requires { (at ≤ length text.now) × (length text.now ≤ 1048576) }
-    ensures { Tells text.now at (λ s. Packs s result) (key_string (drop at text.now)) result.code result.at }
+pub fn key_there(text: &[u8], at: usize) -> Reading<Word>
+    requires { at ≤ length text.now }
+    ensures { Reads text.now at Packs (key_string (drop at text.now)) result }
 {
-    if json_scan::byte(text, at) != 0x22 {
-        return fault(10, at);
+    if json_scan::byte(text, at) != b'"' {
+        return Err(not_json(at));
     }
     word_behind(text, at + 1)
 }
@@ -264,288 +219,228 @@ pub fn key_there(text: &[u8], at: usize) -> Word
 pub fn is_word(w: Word, count: usize, low: u64, high: u64) -> bool
     ensures { result ≡ (eqb w.count count && (eqb w.low low && eqb w.high high)) }
 {
-    json_scan::both(
-        w.count == count,
-        json_scan::both(w.low == low, w.high == high),
-    )
+    w.count == count && w.low == low && w.high == high
 }
 
-// ---- keys: one more than the field, 0 for a key that is none
+// ---- keys, by their fields
 
-fn condition_field(w: Word) -> u64
+fn condition_field(w: Word) -> Option<u64>
     ensures { result ≡ field_in condition_keys w }
 {
-    pick(
-        is_word(w, 5, 0x7865646e69, 0x0),
-        1,
-        pick(
-            is_word(w, 4, 0x65707974, 0x0),
-            2,
-            pick(
-                is_word(w, 2, 0x706f, 0x0),
-                3,
-                pick(
-                    is_word(w, 3, 0x6c6176, 0x0),
-                    4,
-                    pick(is_word(w, 7, 0x746e656d6d6f63, 0x0), 5, 0),
-                ),
-            ),
-        ),
-    )
+    if is_word(w, 5, 0x7865646e69, 0x0) {
+        Some(0)
+    } else if is_word(w, 4, 0x65707974, 0x0) {
+        Some(1)
+    } else if is_word(w, 2, 0x706f, 0x0) {
+        Some(2)
+    } else if is_word(w, 3, 0x6c6176, 0x0) {
+        Some(3)
+    } else if is_word(w, 7, 0x746e656d6d6f63, 0x0) {
+        Some(4)
+    } else {
+        None
+    }
 }
 
-fn line_field(w: Word) -> u64
+fn line_field(w: Word) -> Option<u64>
     ensures { result ≡ field_in line_keys w }
 {
-    pick(
-        is_word(w, 7, 0x6c6c6163737973, 0x0),
-        1,
-        pick(
-            is_word(w, 4, 0x73677261, 0x0),
-            2,
-            pick(is_word(w, 7, 0x746e656d6d6f63, 0x0), 3, 0),
-        ),
-    )
+    if is_word(w, 7, 0x6c6c6163737973, 0x0) {
+        Some(0)
+    } else if is_word(w, 4, 0x73677261, 0x0) {
+        Some(1)
+    } else if is_word(w, 7, 0x746e656d6d6f63, 0x0) {
+        Some(2)
+    } else {
+        None
+    }
 }
 
-fn filter_field(w: Word) -> u64
+fn filter_field(w: Word) -> Option<u64>
     ensures { result ≡ field_in filter_keys w }
 {
-    pick(
-        is_word(w, 15, 0x686374616d73696d, 0x6e6f697463615f),
-        1,
-        pick(
-            is_word(w, 14, 0x5f746c7561666564, 0x6e6f69746361),
-            1,
-            pick(
-                is_word(w, 12, 0x63615f686374616d, 0x6e6f6974),
-                2,
-                pick(
-                    is_word(w, 13, 0x615f7265746c6966, 0x6e6f697463),
-                    2,
-                    pick(is_word(w, 6, 0x7265746c6966, 0x0), 3, 0),
-                ),
-            ),
-        ),
-    )
+    if is_word(w, 15, 0x686374616d73696d, 0x6e6f697463615f)
+        || is_word(w, 14, 0x5f746c7561666564, 0x6e6f69746361)
+    {
+        Some(0)
+    } else if is_word(w, 12, 0x63615f686374616d, 0x6e6f6974)
+        || is_word(w, 13, 0x615f7265746c6966, 0x6e6f697463)
+    {
+        Some(1)
+    } else if is_word(w, 6, 0x7265746c6966, 0x0) {
+        Some(2)
+    } else {
+        None
+    }
 }
 
-fn field_in(w: Word, kind: u32) -> u64
-    ensures { result ≡ field_in (keys_of kind) w }
+#[tactic(auto, unfolding(crate::specs::Kinds::keys_of))]
+fn field_in(w: Word, object: Object) -> Option<u64>
+    ensures { result ≡ field_in (keys_of object) w }
 {
-    if kind == 0 {
-        return condition_field(w);
+    match object {
+        Object::Condition => condition_field(w),
+        Object::Line => line_field(w),
+        Object::Filter => filter_field(w),
     }
-    if kind == 1 {
-        return line_field(w);
-    }
-    filter_field(w)
 }
 
 // The field of a key, up to the end of its string.
-pub fn field_there(text: &[u8], at: usize, kind: u32) -> Step
-    requires { (at ≤ length text.now) × (length text.now ≤ 1048576) }
-    ensures { Tells text.now at (λ f. result.value ≡ f) (field_there (keys_of kind) (drop at text.now)) result.code result.at }
+pub fn field_there(text: &[u8], at: usize, object: Object) -> Reading<u64>
+    requires { at ≤ length text.now }
+    ensures { Reads text.now at (λ f v. v ≡ f) (field_there (keys_of object) (drop at text.now)) result }
 {
-    let w = key_there(text, at);
-    let past = w.at;
-    if w.code != 0 {
-        return Step {
-            code: w.code,
-            at: past,
-            value: 0,
-        };
-    }
-    let f = field_in(w, kind);
-    if f == 0 {
-        return Step {
-            code: 11,
-            at: at,
-            value: 0,
-        };
-    }
-    Step {
-        code: 0,
-        at: past,
-        value: f - 1,
+    let key = key_there(text, at)?;
+    match field_in(key.value, object) {
+        Some(value) => Ok(Read { at: key.at, value }),
+        None => Err(Misread {
+            why: Refusal::NotOfForm,
+            at,
+        }),
     }
 }
 
 // ---- brackets, colons, commas
 
 // The bracket that begins an object or an array.
-pub fn open_there(text: &[u8], at: usize, bracket: u8) -> Step
-    requires { (at ≤ length text.now) × (length text.now ≤ 1048576) × (0 < bracket) }
-    ensures { Tells text.now at (λ z. result.value ≡ z) (open_there bracket (drop at text.now)) result.code result.at }
+pub fn open_there(text: &[u8], at: usize, bracket: u8) -> Reading<()>
+    requires { (at ≤ length text.now) × (0 < bracket) }
+    ensures { Reads text.now at (λ z v. Unit {0}) (open_there bracket (drop at text.now)) result }
 {
     if json_scan::byte(text, at) != bracket {
-        return Step {
-            code: wrong_at(text, at),
-            at: at,
-            value: 0,
-        };
+        return Err(Misread {
+            why: wrong_at(text, at),
+            at,
+        });
     }
-    Step {
-        code: 0,
+    Ok(Read {
         at: at + 1,
-        value: 0,
-    }
+        value: (),
+    })
 }
 
 // The colon behind a key, with the blanks around it.
-pub fn colon_there(text: &[u8], at: usize) -> Step
-    requires { (at ≤ length text.now) × (length text.now ≤ 1048576) }
-    ensures { Tells text.now at (λ z. result.value ≡ z) (colon_there (drop at text.now)) result.code result.at }
+pub fn colon_there(text: &[u8], at: usize) -> Reading<()>
+    requires { at ≤ length text.now }
+    ensures { Reads text.now at (λ z v. Unit {0}) (colon_there (drop at text.now)) result }
 {
     let colon = json_scan::skip_blanks(text, at);
-    if json_scan::byte(text, colon) != 0x3a {
-        return Step {
-            code: 10,
-            at: colon,
-            value: 0,
-        };
+    if json_scan::byte(text, colon) != b':' {
+        return Err(not_json(colon));
     }
-    Step {
-        code: 0,
+    Ok(Read {
         at: json_scan::skip_blanks(text, colon + 1),
-        value: 0,
-    }
+        value: (),
+    })
 }
 
 // Behind a value: a comma, or the bracket that ends.
-pub fn more_there(text: &[u8], at: usize, bracket: u8) -> More
-    requires { (at ≤ length text.now) × (length text.now ≤ 1048576) × (0 < bracket) }
-    ensures { Tells text.now at (λ b. result.more ≡ b) (more_there bracket (drop at text.now)) result.code result.at }
+pub fn more_there(text: &[u8], at: usize, bracket: u8) -> Reading<bool>
+    requires { (at ≤ length text.now) × (0 < bracket) }
+    ensures { Reads text.now at (λ b v. v ≡ b) (more_there bracket (drop at text.now)) result }
 {
     let next = json_scan::skip_blanks(text, at);
     let b = json_scan::byte(text, next);
-    if b == 0x2c {
-        return More {
-            code: 0,
+    if b == b',' {
+        return Ok(Read {
             at: next + 1,
-            more: true,
-        };
+            value: true,
+        });
     }
     if b != bracket {
-        return More {
-            code: 10,
-            at: next,
-            more: false,
-        };
+        return Err(not_json(next));
     }
-    More {
-        code: 0,
+    Ok(Read {
         at: next + 1,
-        more: false,
-    }
+        value: false,
+    })
 }
 
 // ---- strings that are skipped, and numbers
 
 // A string, skipped.
-pub fn string_there(text: &[u8], at: usize) -> Step
-    requires { (at ≤ length text.now) × (length text.now ≤ 1048576) }
-    ensures { Tells text.now at (λ s. Unit {0}) (string_there (drop at text.now)) result.code result.at }
+pub fn string_there(text: &[u8], at: usize) -> Reading<()>
+    requires { at ≤ length text.now }
+    ensures { Reads text.now at (λ s v. Unit {0}) (string_there (drop at text.now)) result }
 {
-    if json_scan::byte(text, at) != 0x22 {
-        return Step {
-            code: wrong_at(text, at),
-            at: at,
-            value: 0,
-        };
+    if json_scan::byte(text, at) != b'"' {
+        return Err(Misread {
+            why: wrong_at(text, at),
+            at,
+        });
     }
-    let p = json_scan::skip_string(text, at + 1);
-    let past = p.at;
-    if !p.ok {
-        return Step {
-            code: 10,
-            at: bad_character(text, past),
-            value: 0,
-        };
-    }
-    Step {
-        code: 0,
-        at: past,
-        value: 0,
+    match json_scan::skip_string(text, at + 1) {
+        Ok(past) => Ok(Read {
+            at: past,
+            value: (),
+        }),
+        Err(wrong) => Err(not_json(bad_character(text, wrong))),
     }
 }
 
 // How many bytes of `null` stand at a place.
 fn null_count(text: &[u8], at: usize) -> usize
-    requires { (at ≤ length text.now) × (length text.now ≤ 1048576) }
+    requires { at ≤ length text.now }
     ensures { result ≡ agree (ascii "null") (drop at text.now) }
 {
-    if json_scan::byte(text, at) != 0x6e {
-        return 0;
+    if json_scan::byte(text, at) != b'n' {
+        0
+    } else if json_scan::byte(text, at + 1) != b'u' {
+        1
+    } else if json_scan::byte(text, at + 2) != b'l' {
+        2
+    } else if json_scan::byte(text, at + 3) != b'l' {
+        3
+    } else {
+        4
     }
-    if json_scan::byte(text, at + 1) != 0x75 {
-        return 1;
-    }
-    if json_scan::byte(text, at + 2) != 0x6c {
-        return 2;
-    }
-    if json_scan::byte(text, at + 3) != 0x6c {
-        return 3;
-    }
-    4
 }
 
 // A comment: a string, or null.
-pub fn comment_there(text: &[u8], at: usize) -> Step
-    requires { (at ≤ length text.now) × (length text.now ≤ 1048576) }
-    ensures { Tells text.now at (λ c. Unit {0}) (null_or string_there (drop at text.now)) result.code result.at }
+pub fn comment_there(text: &[u8], at: usize) -> Reading<()>
+    requires { at ≤ length text.now }
+    ensures { Reads text.now at (λ c v. Unit {0}) (null_or string_there (drop at text.now)) result }
 {
-    if json_scan::byte(text, at) != 0x6e {
+    if json_scan::byte(text, at) != b'n' {
         return string_there(text, at);
     }
     let n = null_count(text, at);
     if n != 4 {
-        return Step {
-            code: 10,
-            at: at + n,
-            value: 0,
-        };
+        return Err(not_json(at + n));
     }
-    Step {
-        code: 0,
+    Ok(Read {
         at: at + n,
-        value: 0,
-    }
+        value: (),
+    })
+}
+
+// Whether a number can begin with a byte.
+fn begins_number(b: u8) -> bool
+    ensures { result ≡ (eqb b 0x2d || is_digit b) }
+{
+    matches!(b, b'-' | b'0'..=b'9')
 }
 
 // A number that is digits alone, and at most so much.
-pub fn natural_there(text: &[u8], at: usize, most: u64) -> Step
-    requires { (at ≤ length text.now) × (length text.now ≤ 1048576) }
-    ensures { Tells text.now at (λ n. result.value ≡ n) (natural_there most (drop at text.now)) result.code result.at }
+pub fn natural_there(text: &[u8], at: usize, most: u64) -> Reading<u64>
+    requires { at ≤ length text.now }
+    ensures { Reads text.now at (λ n v. v ≡ n) (natural_there most (drop at text.now)) result }
 {
-    let b = json_scan::byte(text, at);
-    if !json_scan::either(b == 0x2d, json_numbers::is_digit(b)) {
-        return Step {
-            code: wrong_at(text, at),
-            at: at,
-            value: 0,
-        };
+    if !begins_number(json_scan::byte(text, at)) {
+        return Err(Misread {
+            why: wrong_at(text, at),
+            at,
+        });
     }
-    let p = json_numbers::skip_number(text, at);
-    let past = p.at;
-    if !p.ok {
-        return Step {
-            code: 10,
-            at: past,
-            value: 0,
-        };
-    }
-    let n = json_numbers::read_natural(text, at, past, most);
-    if !n.ok {
-        return Step {
-            code: 11,
-            at: at,
-            value: 0,
-        };
-    }
-    Step {
-        code: 0,
-        at: past,
-        value: n.value,
+    let past = match json_numbers::skip_number(text, at) {
+        Ok(past) => past,
+        Err(wrong) => return Err(not_json(wrong)),
+    };
+    match json_numbers::read_natural(text, at, past, most) {
+        Some(value) => Ok(Read { at: past, value }),
+        None => Err(Misread {
+            why: Refusal::NotOfForm,
+            at,
+        }),
     }
 }

@@ -6,6 +6,9 @@ use native.Mathlib.Omega.{arith}
 use lib.ListN.{length}
 use Rattle.definitions.specs.JsonReader.{Got, got, stop, follow}
 use Rattle.json_scan.specs.Scan.{At, Either, Tells}
+use Rattle.json_scan.specs.Telling.{code_of}
+use Rattle.json_scan.specs.declared.Refusal.{Refusal}
+use Rattle.json_scan.specs.declared.Refusal.TheVariants.{SameActions, NoConditions, NoArgument, TooWide, NotJson, NotOfForm, GivenTwice, NotNamed}
 
 -- a part that was read
 pub record Came {A : Type 0} (text : List ℕ) (from : ℕ) (Is : A → Type 0) (g : Got A) (at : ℕ) : Type 0 where
@@ -22,6 +25,17 @@ came {text = text} {from} {code} {at} {Is} {g} t e = go g t.tells
     go : (h : Got _) → Either text from Is h code at → Came text from Is h at
     go (got a rest) s = record { part = a; rest = rest; got_it = refl; on = s.on; place = s.place; value = s.value }
     go (stop k rest) s = absurd (let h = s.some in let d = sym s.told ∙ e in omega arith)
+
+-- a refusal has a number
+pub refused : (w : Refusal) → code_of w ≡ 0 → ⊥
+refused SameActions e = cc
+refused NoConditions e = cc
+refused NoArgument e = cc
+refused TooWide e = cc
+refused NotJson e = cc
+refused NotOfForm e = cc
+refused GivenTwice e = cc
+refused NotNamed e = cc
 
 -- a fault is handed on, whatever would have been read behind it
 pub handed_on : {A B : Type 0} {text : List ℕ} {from from' code at : ℕ} {Is : A → Type 0} {Is' : B → Type 0} {g : Got A} (f : A → List ℕ → Got B)

@@ -1,31 +1,33 @@
 -- What the code's scanners say, by places of the text: they agree with the reader. Needs no belief.
-use Rattle.std.specs.Prelude.{ℕ, ◌+◌, ◌≤◌, ◌<◌, ◌≡◌, Bool, true, false, ◌||◌, eqb, List, length, drop, get_or}
+use Rattle.std.specs.Prelude.{ℕ, ◌+◌, ◌≤◌, ◌<◌, ◌≡◌, Bool, ◌||◌, eqb, List, length, drop, get_or, Some, None, Result, IsOkAnd, IsErrAnd}
+use Rattle.std.specs.Prelude as code
 use Rattle.std.proofs.Math.Option.{Option, none, some}
-use Rattle.json_scan.specs.declared.Place.{Place}
 use Rattle.definitions.specs.Json.{hex4}
 use Rattle.definitions.specs.JsonReader.{Got, got, stop, Piece}
 
-abbrev pub or_else : ℕ → Option ℕ → ℕ
-or_else d none = d
-or_else d (some n) = n
+-- what the code answers for what the definitions may have none of
+abbrev pub option_of : {A : Type 0} → Option A → code.Option A
+option_of none = None
+option_of (some a) = Some a
 
 -- the code unit in four places
 unfoldable pub unit_at : List ℕ → ℕ → Option ℕ
 unit_at text at = hex4 (get_or text at 0) (get_or text (at + 1) 0) (get_or text (at + 2) 0) (get_or text (at + 3) 0)
 
--- how many bytes a character takes; 0 where there is none
-abbrev pub used_of : Option Piece → ℕ
-used_of none = 0
-used_of (some p) = p.used
+-- how many bytes a character takes
+abbrev pub used_of : Option Piece → code.Option ℕ
+used_of none = None
+used_of (some p) = Some p.used
 
 -- a place that stands for what a reader left
 pub record At (text rest : List ℕ) (at : ℕ) : Type 0 where
   pub inside : at ≤ length text
   pub behind : drop at text ≡ rest
 
-abbrev pub Stands : {A : Type 0} → List ℕ → Got A → Place → Type 0
-Stands text (got a rest) r = (r.ok ≡ true) × At text rest r.at
-Stands text (stop k rest) r = (r.ok ≡ false) × At text rest r.at
+-- a place behind what was read, or of what is wrong
+abbrev pub Stands : {A : Type 0} → List ℕ → Got A → Result ℕ ℕ → Type 0
+Stands text (got a rest) r = IsOkAnd r (At text rest)
+Stands text (stop k rest) r = IsErrAnd r (At text rest)
 
 unfoldable pub is_short : ℕ → Bool
 is_short e =

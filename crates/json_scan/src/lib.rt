@@ -1,63 +1,72 @@
-// The JSON front end, a sketch: blanks and strings skipped as RFC 8259 has them.
+// What a reader of a part of a text answers; and blanks and strings, skipped as RFC 8259 has them.
 #![tactic(auto)]
 
-ghost use Rattle.std.specs.Prelude.{◌≡◌, ◌&&◌, ◌||◌, cond, [], ◌∷◌, ◌+◌, ◌≤◌, ◌<◌, length, drop, take, get_or};
+ghost use Rattle.std.specs.Prelude.{◌≡◌, [], ◌∷◌, ◌≤◌, ◌<◌, length, drop, get_or, IfSome};
 ghost use Rattle.definitions.specs.Json as text;
-ghost use Rattle.definitions.specs.JsonReader.{blanks, byte_count, plain_piece, escape_piece, character, string_at};
-ghost use Rattle.json_scan.specs.Scan.{or_else, unit_at, used_of, Stands, At, is_short};
+ghost use Rattle.definitions.specs.JsonReader.{blanks, plain_piece, escape_piece, character, string_at};
+ghost use Rattle.json_scan.specs.Telling.{code_of};
+ghost use Rattle.json_scan.specs.Scan.{option_of, unit_at, used_of, Stands, At, is_short};
 
-// Where a scanner stands: behind what it read, or at what it could not read.
-#[derive(Clone, Copy)]
-pub struct Place {
-    pub ok: bool,
+// Why a text is refused.
+#[derive(Clone, Copy, Debug, PartialEq, Eq)]
+pub enum Refusal {
+    SameActions,
+    NoConditions,
+    NoArgument,
+    TooWide,
+    NotJson,
+    NotOfForm,
+    GivenTwice,
+    NotNamed,
+}
+
+impl Refusal {
+    // The number that a host is told.
+    pub fn code(self) -> u32
+        ensures { result ≡ code_of self }
+    {
+        match self {
+            Refusal::SameActions => 3,
+            Refusal::NoConditions => 4,
+            Refusal::NoArgument => 5,
+            Refusal::TooWide => 8,
+            Refusal::NotJson => 10,
+            Refusal::NotOfForm => 11,
+            Refusal::GivenTwice => 12,
+            Refusal::NotNamed => 13,
+        }
+    }
+}
+
+// What is wrong with a text, and where.
+#[derive(Clone, Copy, Debug, PartialEq, Eq)]
+pub struct Misread {
+    pub why: Refusal,
     pub at: usize,
 }
 
-pub fn both(a: bool, b: bool) -> bool
-    ensures { result ≡ (a && b) }
-{
-    if a {
-        return b;
-    }
-    false
+// A part that was read: the place behind it, and what it stands for.
+#[derive(Clone, Copy, Debug, PartialEq, Eq)]
+pub struct Read<T> {
+    pub at: usize,
+    pub value: T,
 }
 
-pub fn either(a: bool, b: bool) -> bool
-    ensures { result ≡ (a || b) }
-{
-    if a {
-        return true;
-    }
-    b
-}
-
-pub fn within(least: u32, most: u32, b: u32) -> bool
-    ensures { result ≡ text.within least most b }
-{
-    both(least <= b, b <= most)
-}
+// What reading a part from a place on answers.
+pub type Reading<T> = Result<Read<T>, Misread>;
 
 // The byte at a place; zero at the end.
 pub fn byte(text: &[u8], at: usize) -> u8
     ensures { result ≡ get_or text.now at 0 }
 {
-    if at < text.len() {
-        return text[at];
-    }
-    0
+    if at < text.len() { text[at] } else { 0 }
 }
 
-// A byte as a wider number.
-pub fn wide(x: u8) -> u32
-    ensures { (result ≡ x) × (result < 256) }
-{
-    x as u32
-}
-
+#[tactic(auto, using(std::proofs::lemmas::Bool::Decides::nat_tests), unfolding(definitions::specs::Json::is_blank))]
 fn is_blank(b: u8) -> bool
     ensures { result ≡ text.is_blank b }
 {
-    either(b == 32, either(b == 9, either(b == 10, b == 13)))
+    matches!(b, b' ' | b'\t' | b'\n' | b'\r')
 }
 
 // The place of the next byte that is no blank.
@@ -66,213 +75,170 @@ pub fn skip_blanks(text: &[u8], from: usize) -> usize
     ensures { At text.now (blanks (drop from text.now)) result }
 {
     let mut at = from;
-    while at < text.len() {
-        if !is_blank(text[at]) {
-            return at;
-        }
+    while at < text.len() && is_blank(text[at]) {
         at += 1;
     }
     at
 }
 
-// The value of a hexadecimal digit; 16 where it is none.
-pub fn digit_of(b: u8) -> u32
-    ensures { (result ≡ or_else 16 (text.hex_digit b)) × (result ≤ 16) }
+// The value of a hexadecimal digit.
+#[tactic(auto, using(std::proofs::lemmas::Bool::Decides::nat_tests), unfolding(definitions::specs::Json::hex_digit))]
+pub fn digit_of(b: u8) -> Option<u32>
+    ensures { (result ≡ option_of (text.hex_digit b)) × IfSome result (λ d. d ≤ 15) }
 {
-    let x = wide(b);
-    if within(48, 57, x) {
-        return x - 48;
+    match b {
+        b'0'..=b'9' => Some(u32::from(b - b'0')),
+        b'A'..=b'F' => Some(u32::from(b - b'A' + 10)),
+        b'a'..=b'f' => Some(u32::from(b - b'a' + 10)),
+        _ => None,
     }
-    if within(65, 70, x) {
-        return x - 55;
-    }
-    if within(97, 102, x) {
-        return x - 87;
-    }
-    16
 }
 
-// The code unit in the four hexadecimal digits at a place; 65536 where they are none.
-pub fn unit_at(text: &[u8], at: usize) -> u32
-    requires { (at ≤ length text.now) × (length text.now ≤ 1048576) }
-    ensures { result ≡ or_else 65536 (unit_at text.now at) }
+// The code unit in the four hexadecimal digits at a place.
+pub fn unit_at(text: &[u8], at: usize) -> Option<u32>
+    requires { at ≤ length text.now }
+    ensures { (result ≡ option_of (unit_at text.now at)) × IfSome result (λ u. u ≤ 65535) }
 {
-    if text.len() < at + 4 {
-        return 65536;
-    }
-    let p = digit_of(text[at]);
-    let q = digit_of(text[at + 1]);
-    let r = digit_of(text[at + 2]);
-    let s = digit_of(text[at + 3]);
-    if p == 16 {
-        return 65536;
-    }
-    if q == 16 {
-        return 65536;
-    }
-    if r == 16 {
-        return 65536;
-    }
-    if s == 16 {
-        return 65536;
-    }
-    16 * (16 * (16 * p + q) + r) + s
+    let p = digit_of(byte(text, at))?;
+    let q = digit_of(byte(text, at + 1))?;
+    let r = digit_of(byte(text, at + 2))?;
+    let s = digit_of(byte(text, at + 3))?;
+    Some(16 * (16 * (16 * p + q) + r) + s)
 }
 
+#[tactic(auto, using(std::proofs::lemmas::Bool::Decides::nat_tests), unfolding(crate::specs::Scan::is_short))]
 fn is_short(e: u8) -> bool
     ensures { result ≡ is_short e }
 {
-    either(
-        either(either(e == 0x22, e == 0x5c), either(e == 0x2f, e == 0x62)),
-        either(either(e == 0x66, e == 0x6e), either(e == 0x72, e == 0x74)),
-    )
+    matches!(e, b'"' | b'\\' | b'/' | b'b' | b'f' | b'n' | b'r' | b't')
 }
 
 fn is_tail(b: u8) -> bool
     ensures { result ≡ text.is_tail b }
 {
-    within(0x80, 0xbf, wide(b))
+    matches!(b, 0x80..=0xbf)
 }
 
+#[tactic(auto, using(std::proofs::lemmas::Bool::Decides::nat_tests), unfolding(definitions::specs::Json::is_unescaped))]
 fn one(a: u8) -> bool
     ensures { result ≡ text.is_unescaped (a ∷ []) }
 {
-    both(
-        within(0x20, 0x7f, wide(a)),
-        both(!(a == 0x22), !(a == 0x5c)),
-    )
+    matches!(a, 0x20..=0x7f) && a != b'"' && a != b'\\'
 }
 
+#[tactic(auto, using(std::proofs::lemmas::Bool::Decides::nat_tests), unfolding(definitions::specs::Json::is_unescaped))]
 fn two(a: u8, b: u8) -> bool
     ensures { result ≡ text.is_unescaped (a ∷ (b ∷ [])) }
 {
-    both(within(0xc2, 0xdf, wide(a)), is_tail(b))
+    matches!(a, 0xc2..=0xdf) && is_tail(b)
 }
 
+#[tactic(auto, using(std::proofs::lemmas::Bool::Decides::nat_tests), unfolding(definitions::specs::Json::is_unescaped))]
 fn three(a: u8, b: u8, c: u8) -> bool
     ensures { result ≡ text.is_unescaped (a ∷ (b ∷ (c ∷ []))) }
 {
-    let lowest = both(a == 0xe0, within(0xa0, 0xbf, wide(b)));
-    let low = both(within(0xe1, 0xec, wide(a)), is_tail(b));
-    let before = both(a == 0xed, within(0x80, 0x9f, wide(b)));
-    let high = both(within(0xee, 0xef, wide(a)), is_tail(b));
-    both(
-        either(lowest, either(low, either(before, high))),
-        is_tail(c),
-    )
+    let second = match a {
+        0xe0 => matches!(b, 0xa0..=0xbf),
+        0xed => matches!(b, 0x80..=0x9f),
+        0xe1..=0xef => is_tail(b),
+        _ => false,
+    };
+    second && is_tail(c)
 }
 
+#[tactic(auto, using(std::proofs::lemmas::Bool::Decides::nat_tests), unfolding(definitions::specs::Json::is_unescaped))]
 fn four(a: u8, b: u8, c: u8, d: u8) -> bool
     ensures { result ≡ text.is_unescaped (a ∷ (b ∷ (c ∷ (d ∷ [])))) }
 {
-    let low = both(a == 0xf0, within(0x90, 0xbf, wide(b)));
-    let middle = both(within(0xf1, 0xf3, wide(a)), is_tail(b));
-    let high = both(a == 0xf4, within(0x80, 0x8f, wide(b)));
-    both(
-        either(low, either(middle, high)),
-        both(is_tail(c), is_tail(d)),
-    )
+    let second = match a {
+        0xf0 => matches!(b, 0x90..=0xbf),
+        0xf1..=0xf3 => is_tail(b),
+        0xf4 => matches!(b, 0x80..=0x8f),
+        _ => false,
+    };
+    second && is_tail(c) && is_tail(d)
 }
 
-fn counted(ok: bool, n: usize) -> usize
-    ensures { result ≡ cond ok n 0 }
-{
-    if ok {
-        return n;
-    }
-    0
-}
-
-// How many bytes the character takes that stands at a place in its UTF-8; 0 where none does.
-fn plain_count(text: &[u8], at: usize) -> usize
-    requires { (at < length text.now) × (length text.now ≤ 1048576) }
+// How many bytes the character takes that stands at a place in its UTF-8.
+fn plain_count(text: &[u8], at: usize) -> Option<usize>
+    requires { at < length text.now }
     ensures { result ≡ used_of (plain_piece (drop at text.now)) }
 {
     let a = text[at];
     if a <= 0x7f {
-        return counted(one(a), 1);
+        one(a).then_some(1)
+    } else if a <= 0xdf {
+        two(a, byte(text, at + 1)).then_some(2)
+    } else if a <= 0xef {
+        three(a, byte(text, at + 1), byte(text, at + 2)).then_some(3)
+    } else {
+        four(
+            a,
+            byte(text, at + 1),
+            byte(text, at + 2),
+            byte(text, at + 3),
+        )
+        .then_some(4)
     }
-    if a <= 0xdf {
-        if text.len() < at + 2 {
-            return 0;
-        }
-        return counted(two(a, text[at + 1]), 2);
-    }
-    if a <= 0xef {
-        if text.len() < at + 3 {
-            return 0;
-        }
-        return counted(three(a, text[at + 1], text[at + 2]), 3);
-    }
-    if text.len() < at + 4 {
-        return 0;
-    }
-    counted(four(a, text[at + 1], text[at + 2], text[at + 3]), 4)
 }
 
-// How many bytes an escape takes; 0 where none stands.
-fn escape_count(text: &[u8], at: usize) -> usize
-    requires { (at < length text.now) × (length text.now ≤ 1048576) }
+fn is_high(u: u32) -> bool
+    ensures { result ≡ text.is_high u }
+{
+    matches!(u, 0xd800..=0xdbff)
+}
+
+fn is_low(u: u32) -> bool
+    ensures { result ≡ text.is_low u }
+{
+    matches!(u, 0xdc00..=0xdfff)
+}
+
+// How many bytes an escape takes.
+fn escape_count(text: &[u8], at: usize) -> Option<usize>
+    requires { at < length text.now }
     ensures { result ≡ used_of (escape_piece (drop at text.now)) }
 {
-    if text.len() < at + 2 {
-        return 0;
+    let e = byte(text, at + 1);
+    if e != b'u' {
+        return is_short(e).then_some(2);
     }
-    let e = text[at + 1];
-    if e != 0x75 {
-        return counted(is_short(e), 2);
+    let u = unit_at(text, at + 2)?;
+    if !is_high(u) {
+        return (!is_low(u)).then_some(6);
     }
-    let u = unit_at(text, at + 2);
-    if u == 65536 {
-        return 0;
+    if byte(text, at + 6) != b'\\' || byte(text, at + 7) != b'u' {
+        return None;
     }
-    if within(0xd800, 0xdbff, u) {
-        if text.len() < at + 12 {
-            return 0;
-        }
-        if text[at + 6] != 0x5c {
-            return 0;
-        }
-        if text[at + 7] != 0x75 {
-            return 0;
-        }
-        let v = unit_at(text, at + 8);
-        if v == 65536 {
-            return 0;
-        }
-        return counted(within(0xdc00, 0xdfff, v), 12);
-    }
-    counted(!within(0xdc00, 0xdfff, u), 6)
+    let v = unit_at(text, at + 8)?;
+    is_low(v).then_some(12)
 }
 
-pub fn character_count(text: &[u8], at: usize) -> usize
-    requires { (at < length text.now) × (length text.now ≤ 1048576) }
+pub fn character_count(text: &[u8], at: usize) -> Option<usize>
+    requires { at < length text.now }
     ensures { result ≡ used_of (character (drop at text.now)) }
 {
-    if text[at] == 0x5c {
-        return escape_count(text, at);
+    if text[at] == b'\\' {
+        escape_count(text, at)
+    } else {
+        plain_count(text, at)
     }
-    plain_count(text, at)
 }
 
-// Skips a string, from behind the quotation mark that begins it.
-pub fn skip_string(text: &[u8], from: usize) -> Place
-    requires { (from ≤ length text.now) × (length text.now ≤ 1048576) }
+// Skips a string, from behind the quotation mark that begins it: the place behind it, or of what is wrong.
+pub fn skip_string(text: &[u8], from: usize) -> Result<usize, usize>
+    requires { from ≤ length text.now }
     ensures { Stands text.now (string_at (drop from text.now)) result }
 {
     let mut at = from;
     while at < text.len() {
-        if text[at] == 0x22 {
-            return Place {
-                ok: true,
-                at: at + 1,
-            };
+        if text[at] == b'"' {
+            return Ok(at + 1);
         }
-        let n = character_count(text, at);
-        if n == 0 {
-            return Place { ok: false, at: at };
+        match character_count(text, at) {
+            Some(n) => at += n,
+            None => return Err(at),
         }
-        at += n;
     }
-    Place { ok: false, at: at }
+    Err(at)
 }

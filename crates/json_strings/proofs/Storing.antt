@@ -11,18 +11,16 @@ use lib.Dec.{eqb, leb}
 use lib.ListN.{length, take, drop, get_or, set, replicate, length-append, length-take, length-drop}
 use lib.Seq.{sets, length-sets, set_out, get_or-drop, take-suc, take-length}
 use borrow.Author.Tests.{eqb-true, eqb-false, le-leb, lt-leb}
+use Rattle.std.specs.Prelude.{Some, None, Ok, Err}
 use Rattle.definitions.specs.Format.{then, check}
 use Rattle.definitions.specs.Json.{quote, backslash, is_unescaped, short_escape, is_high, is_low, utf8, pair_of, Character, unescaped, escaped, unit, pair}
 use Rattle.definitions.specs.JsonReader.{Got, got, stop, not_json, follow, first, Piece, piece, byte_count, plain_piece, hex_at, pair_piece, unit_or, escape_piece, character, characters, string_at}
-use Rattle.json_scan.specs.Scan.{or_else, unit_at, used_of}
+use Rattle.json_scan.specs.Scan.{At, unit_at, used_of}
 use Rattle.json_theorems.proofs.Tests.{check_some, then_some, within_le}
 use Rattle.json_theorems.proofs.Strings.{character_sound}
-use Rattle.json_scan.proofs.Scanning.{hex_at_lem, unit_small, used_fits, follow_id, after_quote, after_end, after_none, after_some, no_piece}
+use Rattle.json_scan.proofs.Scanning.{first_at, piece_none, hex_at_lem, used_fits, follow_id, after_quote, after_end, after_none, after_some}
 use Rattle.json_strings.specs.declared.Decoded.{Decoded}
-use Rattle.json_strings.specs.Decoding.{meant_of, Read, Unread, Stored}
-
-first_at : (text : List ℕ) (at : ℕ) → first (drop at text) ≡ get_or text at 0
-first_at text at = get_or-drop at text 0 0 ∙ rw add-zero
+use Rattle.json_strings.specs.Decoding.{meant_of, Read, Stored}
 
 -- ---- stores one after the other
 
@@ -146,22 +144,29 @@ spelt text at p e = go (eqb (get_or text at 0) backslash) refl (rw (first_at tex
 
 -- ---- put_character, return by return
 
-module _ (text : List ℕ) (at used : ℕ) (pos : 1 ≤ used) (eu : used ≡ used_of (character (drop at text))) where
+-- what stands behind a backslash for itself is no code unit
+no_unit : {b : ℕ} → short_escape 0x75 ≡ some b → ⊥
+unfolding short_escape
+no_unit e = cc
+
+module _ (text : List ℕ) (at used : ℕ) (eu : Some used ≡ used_of (character (drop at text))) where
   pub record There : Type 0 where
     pub piece' : Piece
     pub is : character (drop at text) ≡ some piece'
     pub taken : used ≡ piece'.used
+    pub some : 1 ≤ used
     pub fits : at + used ≤ length text
     pub kind : Spelt text at piece'
 
   pub there : There
   there = go (character (drop at text)) refl eu
     where
-      go : (o : Option Piece) → character (drop at text) ≡ o → used ≡ used_of o → There
-      go none e u = absurd (omega arith)
+      go : (o : Option Piece) → character (drop at text) ≡ o → Some used ≡ used_of o → There
+      go none e u = cc
       go (some p) e u =
           let f = used_fits (drop at text) p e in
-          record { piece' = p; is = e; taken = u; fits = omega (arith, length-drop at text); kind = spelt text at p e }
+          let t : used ≡ p.used = cc in
+          record { piece' = p; is = e; taken = t; some = omega arith; fits = omega (arith, length-drop at text); kind = spelt text at p e }
 
   pub meant_plain : (get_or text at 0 ≡ backslash → ⊥) → (l : List ℕ) (place : ℕ) (out : List ℕ) → out ≡ sets l place (take used (drop at text))
       → (out ≡ sets l place (meant_of (character (drop at text)))) × (used ≡ length (meant_of (character (drop at text))))
@@ -177,74 +182,90 @@ module _ (text : List ℕ) (at used : ℕ) (pos : 1 ≤ used) (eu : used ≡ use
       go (single u e0 e1 x m y) = absurd (ne e0)
       go (double u v e0 e1 x y h w m z) = absurd (ne e0)
 
-  pub long_escape : get_or text at 0 ≡ backslash → at + 2 ≤ length text
-  long_escape e0 = go there.kind
-    where
-      go : Spelt text at there.piece' → at + 2 ≤ length text
-      go (plain n m) = absurd (n e0)
-      go (short b e n s m u) = omega (arith, there.taken, there.fits)
-      go (single u e e1 x m y) = omega (arith, there.taken, there.fits)
-      go (double u v e e1 x y h w m z) = omega (arith, there.taken, there.fits)
-
-  pub meant_short_escape : get_or text at 0 ≡ backslash → (get_or text (at + 1) 0 ≡ 0x75 → ⊥) → (l : List ℕ) (place b : ℕ) (out : List ℕ)
-      → b ≡ or_else 0 (short_escape (get_or text (at + 1) 0)) → out ≡ set l place b
-      → (out ≡ sets l place (meant_of (character (drop at text)))) × (1 ≡ length (meant_of (character (drop at text))))
-  meant_short_escape e0 ne l place b out eb e = go there.kind
-    where
-      go : Spelt text at there.piece' → (out ≡ sets l place (meant_of (character (drop at text)))) × (1 ≡ length (meant_of (character (drop at text))))
-      go (plain n m) = absurd (n e0)
-      go (short b' e' n s m u) =
-          let q : meant_of (character (drop at text)) ≡ b' ∷ [] = rw there.is m in
-          let r : b ≡ b' = rw s at eb in
-          rw q (e ∙ ap (λ (x : ℕ). set l place x) r, refl)
-      go (single u e' e1 x m y) = absurd (ne e1)
-      go (double u v e' e1 x y h w m z) = absurd (ne e1)
-
-  module _ (e0 : get_or text at 0 ≡ backslash) (e1 : get_or text (at + 1) 0 ≡ 0x75) (u : ℕ) (unit-is : u ≡ or_else 65536 (unit_at text (at + 2))) where
-    pub record One : Type 0 where
-      pub meant' : meant_of (character (drop at text)) ≡ utf8 u
-      pub small : u ≤ 65535
-
-    pub one_unit : used ≡ 6 → One
-    one_unit six = go there.kind
+  module _ (e0 : get_or text at 0 ≡ backslash) where
+    pub long_escape : at + 2 ≤ length text
+    long_escape = go there.kind
       where
-        go : Spelt text at there.piece' → One
+        go : Spelt text at there.piece' → at + 2 ≤ length text
         go (plain n m) = absurd (n e0)
-        go (short b e' n s m y) = absurd (n e1)
-        go (single w e' e'' x m y) =
-            let r : u ≡ w = rw x at unit-is in
-            record { meant' = rw (there.is, r) m; small = (let k = unit_small text (at + 2) w x in omega arith) }
-        go (double w v e' e'' x y h z m k) = absurd (omega (arith, there.taken))
+        go (short b e n s m u) = omega (arith, there.taken, there.fits)
+        go (single u e e1 x m y) = omega (arith, there.taken, there.fits)
+        go (double u v e e1 x y h w m z) = omega (arith, there.taken, there.fits)
 
-    pub record Two (v : ℕ) : Type 0 where
-      pub meant' : meant_of (character (drop at text)) ≡ utf8 (0x10000 + (0x400 * (u - 0xd800) + (v - 0xdc00)))
-      pub high : 0xd800 ≤ u
-      pub high' : u ≤ 0xdbff
-      pub low : 0xdc00 ≤ v
-      pub low' : v ≤ 0xdfff
-
-    pub long_pair : (used ≡ 6 → ⊥) → at + 12 ≤ length text
-    long_pair six = go there.kind
+    pub meant_short_escape : (b : ℕ) → short_escape (get_or text (at + 1) 0) ≡ some b → (l : List ℕ) (place : ℕ) (out : List ℕ) → out ≡ set l place b
+        → (out ≡ sets l place (meant_of (character (drop at text)))) × (1 ≡ length (meant_of (character (drop at text))))
+    meant_short_escape b eb l place out e = go there.kind
       where
-        go : Spelt text at there.piece' → at + 12 ≤ length text
+        go : Spelt text at there.piece' → (out ≡ sets l place (meant_of (character (drop at text)))) × (1 ≡ length (meant_of (character (drop at text))))
         go (plain n m) = absurd (n e0)
-        go (short b e' n s m y) = absurd (n e1)
-        go (single w e' e'' x m y) = absurd (six (there.taken ∙ y))
-        go (double w v e' e'' x y h z m k) = omega (arith, there.taken, there.fits)
+        go (short b' e' n s m u) =
+            let q : meant_of (character (drop at text)) ≡ b' ∷ [] = rw there.is m in
+            let r : b ≡ b' = cc in
+            rw q (e ∙ ap (λ (x : ℕ). set l place x) r, refl)
+        go (single u e' e1 x m y) = absurd (no_unit (rw e1 at eb))
+        go (double u v e' e1 x y h w m z) = absurd (no_unit (rw e1 at eb))
 
-    pub two_units : (used ≡ 6 → ⊥) → (v : ℕ) → v ≡ or_else 65536 (unit_at text (at + 8)) → Two v
-    two_units six v unit-is' = go there.kind
-      where
-        go : Spelt text at there.piece' → Two v
-        go (plain n m) = absurd (n e0)
-        go (short b e' n s m y) = absurd (n e1)
-        go (single w e' e'' x m y) = absurd (six (there.taken ∙ y))
-        go (double w v' e' e'' x y h z m k) =
-            let r : u ≡ w = rw x at unit-is in
-            let s : v ≡ v' = rw y at unit-is' in
-            let a = within_le 0xd800 0xdbff w h in
-            let b = within_le 0xdc00 0xdfff v' z in
-            record { meant' = rw (there.is, r, s) m; high = omega arith; high' = omega arith; low = omega arith; low' = omega arith }
+    -- a code unit, alone or the first of a pair
+    module _ (none-short : short_escape (get_or text (at + 1) 0) ≡ none) where
+      pub one_there : (u : ℕ) × (unit_at text (at + 2) ≡ some u)
+      one_there = go there.kind
+        where
+          go : Spelt text at there.piece' → (u : ℕ) × (unit_at text (at + 2) ≡ some u)
+          go (plain n m) = absurd (n e0)
+          go (short b e' n s m y) = cc
+          go (single u e' e1 x m y) = (u, x)
+          go (double u v e' e1 x y h z m k) = (u, x)
+
+      module _ (u : ℕ) (unit-is : unit_at text (at + 2) ≡ some u) where
+        pub one_unit : used ≡ 6 → meant_of (character (drop at text)) ≡ utf8 u
+        one_unit six = go there.kind
+          where
+            go : Spelt text at there.piece' → meant_of (character (drop at text)) ≡ utf8 u
+            go (plain n m) = absurd (n e0)
+            go (short b e' n s m y) = cc
+            go (single w e' e1 x m y) = let r : u ≡ w = cc in rw (there.is, r) m
+            go (double w v e' e1 x y h z m k) = absurd (omega (arith, there.taken))
+
+        module _ (six : used ≡ 6 → ⊥) where
+          pub long_pair : at + 12 ≤ length text
+          long_pair = go there.kind
+            where
+              go : Spelt text at there.piece' → at + 12 ≤ length text
+              go (plain n m) = absurd (n e0)
+              go (short b e' n s m y) = cc
+              go (single w e' e1 x m y) = absurd (six (there.taken ∙ y))
+              go (double w v e' e1 x y h z m k) = omega (arith, there.taken, there.fits)
+
+          pub two_there : (v : ℕ) × (unit_at text (at + 8) ≡ some v)
+          two_there = go there.kind
+            where
+              go : Spelt text at there.piece' → (v : ℕ) × (unit_at text (at + 8) ≡ some v)
+              go (plain n m) = absurd (n e0)
+              go (short b e' n s m y) = cc
+              go (single w e' e1 x m y) = absurd (six (there.taken ∙ y))
+              go (double w v e' e1 x y h z m k) = (v, y)
+
+          pub record Two (v : ℕ) : Type 0 where
+            pub long : used ≡ 12
+            pub meant' : meant_of (character (drop at text)) ≡ utf8 (0x10000 + (0x400 * (u - 0xd800) + (v - 0xdc00)))
+            pub high : 0xd800 ≤ u
+            pub high' : u ≤ 0xdbff
+            pub low : 0xdc00 ≤ v
+            pub low' : v ≤ 0xdfff
+
+          pub two_units : (v : ℕ) → unit_at text (at + 8) ≡ some v → Two v
+          two_units v unit-is' = go there.kind
+            where
+              go : Spelt text at there.piece' → Two v
+              go (plain n m) = absurd (n e0)
+              go (short b e' n s m y) = cc
+              go (single w e' e1 x m y) = absurd (six (there.taken ∙ y))
+              go (double w v' e' e1 x y h z m k) =
+                  let r : u ≡ w = cc in
+                  let s : v ≡ v' = cc in
+                  let a = within_le 0xd800 0xdbff w h in
+                  let b = within_le 0xdc00 0xdfff v' z in
+                  record { long = there.taken ∙ k; meant' = rw (there.is, r, s) m; high = omega arith; high' = omega arith; low = omega arith; low' = omega arith }
 
 pub as_meant : (l out a b : List ℕ) (place r : ℕ) → a ≡ b → (out ≡ sets l place b) × (r ≡ length b) → (out ≡ sets l place a) × (r ≡ length a)
 as_meant l out a b place r e h = rw e h
@@ -274,38 +295,36 @@ going_start text from out start h = record {
   few = omega arith;
 }
 
-stored_got : (text out₀ : List ℕ) (start : ℕ) (g : Got (List ℕ)) (s rest out : List ℕ) (r : Decoded) → g ≡ got s rest → Read text out₀ start s rest out r → Stored text out₀ start g out r
-stored_got text out₀ start g s rest out r e h = rw e h
+stored_got : (text out₀ : List ℕ) (start : ℕ) (g : Got (List ℕ)) (s rest out : List ℕ) (d : Decoded) → g ≡ got s rest → Read text out₀ start s rest out d → Stored text out₀ start g out (Ok d)
+stored_got text out₀ start g s rest out d e h = rw e h
 
-stored_stop : (text out₀ : List ℕ) (start k : ℕ) (g : Got (List ℕ)) (rest out : List ℕ) (r : Decoded) → g ≡ stop k rest → Unread text rest r → Stored text out₀ start g out r
-stored_stop text out₀ start k g rest out r e h = rw e h
+stored_stop : (text out₀ : List ℕ) (start k : ℕ) (g : Got (List ℕ)) (rest out : List ℕ) (at : ℕ) → g ≡ stop k rest → At text rest at → Stored text out₀ start g out (Err at)
+stored_stop text out₀ start k g rest out at e h = rw e h
 
 module _ (text : List ℕ) (from : ℕ) (out₀ : List ℕ) (start : ℕ) (out : List ℕ) (at count : ℕ) (p : Going text from out₀ start out at count) where
   pub going_long : length out ≡ length out₀
   going_long = ap length p.wrote ∙ length-sets out₀ start p.done
 
-  pub going_quote : (r : Decoded) → r.ok ≡ true → r.at ≡ at + 1 → r.count ≡ count → at < length text → get_or text at 0 ≡ quote
-      → Stored text out₀ start (string_at (drop from text)) out r
-  going_quote r ok place n h e =
-      stored_got text out₀ start (string_at (drop from text)) p.done (drop (at + 1) text) out r
+  pub going_quote : at < length text → get_or text at 0 ≡ quote → Stored text out₀ start (string_at (drop from text)) out (Ok (record { at = at + 1; count = count }))
+  going_quote h e =
+      stored_got text out₀ start (string_at (drop from text)) p.done (drop (at + 1) text) out _
       (p.whole ∙ after_quote text at p.left p.done h p.enough e ∙ ap (λ (l : List ℕ). got l (drop (at + 1) text)) (append-nil p.done))
-      (record { fine = ok; place = record { inside = rw place (omega arith); behind = rw place }; counted = n ∙ p.counted; stored = p.wrote })
+      (record { place = record { inside = omega arith; behind = refl }; counted = p.counted; stored = p.wrote })
 
-  pub going_end : (r : Decoded) → r.ok ≡ false → r.at ≡ at → length text ≤ at → Stored text out₀ start (string_at (drop from text)) out r
-  going_end r ok place h =
-      stored_stop text out₀ start not_json (string_at (drop from text)) (drop at text) out r (p.whole ∙ after_end text at p.left p.done h)
-      (record { fine = ok; place = record { inside = rw place p.inside; behind = rw place } })
+  pub going_end : length text ≤ at → Stored text out₀ start (string_at (drop from text)) out (Err at)
+  going_end h =
+      stored_stop text out₀ start not_json (string_at (drop from text)) (drop at text) out at (p.whole ∙ after_end text at p.left p.done h)
+      (record { inside = p.inside; behind = refl })
 
-  pub going_none : (r : Decoded) → r.ok ≡ false → r.at ≡ at → (get_or text at 0 ≡ quote → ⊥) → 0 ≡ used_of (character (drop at text))
-      → Stored text out₀ start (string_at (drop from text)) out r
-  going_none r ok place h e =
-      stored_stop text out₀ start not_json (string_at (drop from text)) (drop at text) out r (p.whole ∙ after_none text at p.left p.done h (no_piece (drop at text) e))
-      (record { fine = ok; place = record { inside = rw place p.inside; behind = rw place } })
+  pub going_none : (get_or text at 0 ≡ quote → ⊥) → None ≡ used_of (character (drop at text)) → Stored text out₀ start (string_at (drop from text)) out (Err at)
+  going_none h e =
+      stored_stop text out₀ start not_json (string_at (drop from text)) (drop at text) out at (p.whole ∙ after_none text at p.left p.done h (piece_none e))
+      (record { inside = p.inside; behind = refl })
 
-  pub going_turn : (n m : ℕ) (out' : List ℕ) → at < length text → (get_or text at 0 ≡ quote → ⊥) → 1 ≤ n → n ≡ used_of (character (drop at text))
+  pub going_turn : (n m : ℕ) (out' : List ℕ) → at < length text → (get_or text at 0 ≡ quote → ⊥) → Some n ≡ used_of (character (drop at text))
       → out' ≡ sets out (start + count) (meant_of (character (drop at text))) → m ≡ length (meant_of (character (drop at text)))
       → Going text from out₀ start out' (at + n) (count + m)
-  going_turn n m out' inside' h pos en eo em = go (character (drop at text)) refl en eo em
+  going_turn n m out' inside' h en eo em = go (character (drop at text)) refl en eo em
     where
       some_left : (q : Piece) → character (drop at text) ≡ some q → n ≡ q.used → out' ≡ sets out (start + count) q.meant → m ≡ length q.meant → (k : ℕ) → p.left ≡ k
           → Going text from out₀ start out' (at + n) (count + m)
@@ -326,9 +345,9 @@ module _ (text : List ℕ) (from : ℕ) (out₀ : List ℕ) (start : ℕ) (out :
             few = omega (arith, length-take q.used (drop at text));
           }
 
-      go : (o : Option Piece) → character (drop at text) ≡ o → n ≡ used_of o → out' ≡ sets out (start + count) (meant_of o) → m ≡ length (meant_of o) → Going text from out₀ start out' (at + n) (count + m)
-      go none f s o l = absurd (omega arith)
-      go (some q) f s o l = some_left q f s o l p.left refl
+      go : (o : Option Piece) → character (drop at text) ≡ o → Some n ≡ used_of o → out' ≡ sets out (start + count) (meant_of o) → m ≡ length (meant_of o) → Going text from out₀ start out' (at + n) (count + m)
+      go none f s o l = cc
+      go (some q) f s o l = some_left q f (cc) o l p.left refl
 
 -- ---- a buffer of zeros keeps what comes first
 

@@ -1,5 +1,5 @@
 -- What decoding a string leaves: it agrees with the reader. Needs no belief.
-use Rattle.std.specs.Prelude.{ℕ, ◌≡◌, true, false, List, [], length}
+use Rattle.std.specs.Prelude.{ℕ, ◌≡◌, List, [], length, Result, IsOkAnd, IsErrAnd}
 use Rattle.std.proofs.Math.Option.{Option, none, some}
 use Rattle.std.proofs.lemmas.List.Edits.{sets}
 use Rattle.definitions.specs.JsonReader.{Got, got, stop, Piece}
@@ -13,16 +13,11 @@ meant_of (some p) = p.meant
 
 -- A string was read: all its bytes are counted, and they are stored from `start` on, as far as there is room (a store outside does nothing).
 pub record Read (text out₀ : List ℕ) (start : ℕ) (s rest out : List ℕ) (r : Decoded) : Type 0 where
-  pub fine : r.ok ≡ true
   pub place : At text rest r.at
   pub counted : r.count ≡ length s
   pub stored : out ≡ sets out₀ start s
 
--- None stands there; the place is that of the first byte that is wrong.
-pub record Unread (text rest : List ℕ) (r : Decoded) : Type 0 where
-  pub fine : r.ok ≡ false
-  pub place : At text rest r.at
-
-abbrev pub Stored : List ℕ → List ℕ → ℕ → Got (List ℕ) → List ℕ → Decoded → Type 0
-Stored text out₀ start (got s rest) out r = Read text out₀ start s rest out r
-Stored text out₀ start (stop k rest) out r = Unread text rest r
+-- Where none stands the place is that of the first byte that is wrong.
+abbrev pub Stored : List ℕ → List ℕ → ℕ → Got (List ℕ) → List ℕ → Result Decoded ℕ → Type 0
+Stored text out₀ start (got s rest) out r = IsOkAnd r (Read text out₀ start s rest out)
+Stored text out₀ start (stop k rest) out r = IsErrAnd r (At text rest)

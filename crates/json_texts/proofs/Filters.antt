@@ -116,30 +116,38 @@ spelled_as {end = end} {count} {k = k} b room n v =
     let c : count ≡ length k = omega arith in
     v.spelled ∙ rw (front_kept b room end (omega arith), c, part_written b room, n) refl
 
-module _ {text before middle : List ℕ} {at past end count code : ℕ} (j : Judges) (fs : List Filter)
-    (name : Tells text at (NamePut before middle end count) (new_name fs (drop at text)) code past) where
-  pub name_fails : {Is : Turned (List Filter) → Type 0} → (code ≡ 0 → ⊥) → Tells text at Is (filter_turn j fs (drop at text)) code past
+module _ {text : List ℕ} {at past code : ℕ} (j : Judges) (fs : List Filter) where
+  pub name_fails : {Is₀ : List ℕ → Type 0} → Tells text at Is₀ (new_name fs (drop at text)) code past
+      → {Is : Turned (List Filter) → Type 0} → (code ≡ 0 → ⊥) → Tells text at Is (filter_turn j fs (drop at text)) code past
   unfolding filter_turn
-  name_fails h = handed_on _ name h
+  name_fails name h = handed_on _ name h
 
-  module _ {slots : List Slot} {architecture : ℕ} {after : List ℕ} {spot place' code' : ℕ} (e : code ≡ 0)
-      (filter : (k : List ℕ) → Tells text past (Added slots architecture end count middle after spot place') (filter_behind j k (drop past text)) code' place') where
-    pub filter_fails : {Is : Turned (List Filter) → Type 0} → (code' ≡ 0 → ⊥) → Tells text at Is (filter_turn j fs (drop at text)) code' place'
+  module _ {before middle : List ℕ} {end count : ℕ} (name : Tells text at (NamePut before middle end count) (new_name fs (drop at text)) code past) (e : code ≡ 0) {code' place' : ℕ} where
+    pub filter_fails : {Is₀ : Filter → Type 0} → ((k : List ℕ) → Tells text past Is₀ (filter_behind j k (drop past text)) code' place')
+        → {Is : Turned (List Filter) → Type 0} → (code' ≡ 0 → ⊥) → Tells text at Is (filter_turn j fs (drop at text)) code' place'
     unfolding filter_turn
-    filter_fails h = followed _ name e (λ k v. handed_on _ (filter k) h)
+    filter_fails filter h = followed _ name e (λ k v. handed_on _ (filter k) h)
 
-    pub turn_made : {many code'' place'' : ℕ} {more : Bool} → code' ≡ 0 → Written slots architecture fs many (take end before) → end + 8 + count ≤ length before
-        → Tells text place' (λ b. more ≡ b) (more_there 0x7d (drop place' text)) code'' place''
-        → Tells text at (Made slots architecture many end spot place'' after more) (filter_turn j fs (drop at text)) code'' place''
-    unfolding filter_turn turned_there
-    turn_made {place'' = place''} {more} d w room m =
-        followed _ name e (λ k b. followed _ (knowing (filter k) (λ f rest g o. behind_name j k (drop past text) rest f g)) d (λ f v.
-        made_into (λ x. turned (fs ++ (f ∷ [])) x) (knowing {Is' = λ x. place' < place''} m (λ x rest g o. o)) (λ x h.
-        let s = v.0.spot in
-        let short = v.0.short in
-        record {
-          same_more = h.0;
-          written = written_more f v.0.set w (some_same (sym w.is_known ∙ v.0.is_known)) v.0.made (spelled_as b.behind room v.1 v.0);
-          longer = omega arith;
-          less = omega (arith, h.1);
-        })))
+    module _ {slots : List Slot} {architecture : ℕ} {after : List ℕ} {spot : ℕ}
+        (filter : (k : List ℕ) → Tells text past (Added slots architecture end count middle after spot place') (filter_behind j k (drop past text)) code' place') (d : code' ≡ 0)
+        {code'' place'' : ℕ} where
+      pub more_fails : {Is₀ : Bool → Type 0} → Tells text place' Is₀ (more_there 0x7d (drop place' text)) code'' place''
+          → {Is : Turned (List Filter) → Type 0} → (code'' ≡ 0 → ⊥) → Tells text at Is (filter_turn j fs (drop at text)) code'' place''
+      unfolding filter_turn turned_there
+      more_fails m h = followed _ name e (λ k b. followed _ (filter k) d (λ f v. handed_on _ m h))
+
+      pub turn_made : {many : ℕ} {more : Bool} → Written slots architecture fs many (take end before) → end + 8 + count ≤ length before
+          → Tells text place' (λ b. more ≡ b) (more_there 0x7d (drop place' text)) code'' place''
+          → Tells text at (Made slots architecture many end spot place'' after more) (filter_turn j fs (drop at text)) code'' place''
+      unfolding filter_turn turned_there
+      turn_made {more = more} w room m =
+          followed _ name e (λ k b. followed _ (knowing (filter k) (λ f rest g o. behind_name j k (drop past text) rest f g)) d (λ f v.
+          made_into (λ x. turned (fs ++ (f ∷ [])) x) (knowing {Is' = λ x. place' < place''} m (λ x rest g o. o)) (λ x h.
+          let s = v.0.spot in
+          let short = v.0.short in
+          record {
+            same_more = h.0;
+            written = written_more f v.0.set w (some_same (sym w.is_known ∙ v.0.is_known)) v.0.made (spelled_as b.behind room v.1 v.0);
+            longer = omega arith;
+            less = omega (arith, h.1);
+          })))

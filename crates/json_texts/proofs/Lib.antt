@@ -5,6 +5,5 @@ pub mod Named
 pub mod Names
 pub mod Filters
 pub mod Reading
-pub mod Copied
 pub mod Whole
 pub mod Answers

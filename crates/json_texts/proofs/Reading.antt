@@ -18,6 +18,9 @@ use Rattle.json_texts.specs.Named.{filter_turn, filter_turns, Written, Made, All
 use Rattle.json_texts.proofs.Named.{nothing_written}
 use Rattle.json_texts.proofs.Turns.{filter_turns_lem, nothing_turns, no_turns}
 
+abbrev judges : List ℕ → Judges
+judges table = judges_of (table_slots table)
+
 -- what the reader gives from behind the brace
 abbrev pub all_turns : List ℕ → List ℕ → ℕ → Got (List Filter)
 all_turns text table from = filter_turns (judges_of (table_slots table)) (length (drop from text)) [] (drop from text)
@@ -48,30 +51,28 @@ begin text table scratch from h pos k = record {
   whole = refl;
 }
 
-module _ {text table before scratch after : List ℕ} {architecture from at end count code place spot : ℕ} {more : Bool}
-    (r : Reading text table before scratch architecture from at end count)
-    (t : Tells text at (Made (table_slots table) architecture count end spot place after more) (filter_turn (judges_of (table_slots table)) r.fs (drop at text)) code place) where
-  abbrev j : Judges
-  j = judges_of (table_slots table)
-
-  pub turn_stops : {Is : List Filter → Type 0} → (code ≡ 0 → ⊥) → Tells text from Is (all_turns text table from) code place
-  turn_stops {Is = Is} h = rw r.whole (go r.left r.enough)
+module _ {text table before scratch : List ℕ} {architecture from at end count : ℕ}
+    (r : Reading text table before scratch architecture from at end count) where
+  pub turn_stops : {code place : ℕ} {Is₀ : Turned (List Filter) → Type 0} → Tells text at Is₀ (filter_turn (judges table) r.fs (drop at text)) code place
+      → {Is : List Filter → Type 0} → (code ≡ 0 → ⊥) → Tells text from Is (all_turns text table from) code place
+  turn_stops {code} {place} t {Is} h = rw r.whole (go r.left r.enough)
     where
-      go : (n : ℕ) → length text ≤ at + n → Tells text from Is (filter_turns j n r.fs (drop at text)) code place
+      go : (n : ℕ) → length text ≤ at + n → Tells text from Is (filter_turns (judges table) n r.fs (drop at text)) code place
       go zero e =
           let nothing : drop at text ≡ [] = drop_of_length-le text {i = at} (omega arith) in
-          rw (no_turns j r.fs (drop at text), nothing) (handed_on {Is' = Is} (λ u rest. got u.gathered rest) (rw (nothing, nothing_turns j r.fs) at t) h)
-      go (suc n) e = rw (filter_turns_lem j n r.fs (drop at text)) (handed_on _ t h)
+          rw (no_turns (judges table) r.fs (drop at text), nothing) (handed_on {Is' = Is} (λ u rest. got u.gathered rest) (rw (nothing, nothing_turns (judges table) r.fs) at t) h)
+      go (suc n) e = rw (filter_turns_lem (judges table) n r.fs (drop at text)) (handed_on _ t h)
 
-  module _ (e : code ≡ 0) where
-    done : Came text at (Made (table_slots table) architecture count end spot place after more) (filter_turn j r.fs (drop at text)) place
+  module _ {after : List ℕ} {code place spot : ℕ} {more : Bool}
+      (t : Tells text at (Made (table_slots table) architecture count end spot place after more) (filter_turn (judges table) r.fs (drop at text)) code place) (e : code ≡ 0) where
+    done : Came text at (Made (table_slots table) architecture count end spot place after more) (filter_turn (judges table) r.fs (drop at text)) place
     done = came t e
 
     record Next : Type 0 where
       pub fewer : ℕ
       pub one_less : r.left ≡ fewer + 1
       pub comes : all_turns text table from
-          ≡ cond done.part.more (filter_turns j fewer done.part.gathered (drop place text)) (got done.part.gathered (drop place text))
+          ≡ cond done.part.more (filter_turns (judges table) fewer done.part.gathered (drop place text)) (got done.part.gathered (drop place text))
 
     next : Next
     next = go r.left refl
@@ -82,15 +83,15 @@ module _ {text table before scratch after : List ℕ} {architecture from at end 
           fewer = n;
           one_less = omega arith;
           comes =
-              r.whole ∙ ap (λ (m : ℕ). filter_turns j m r.fs (drop at text)) l ∙ filter_turns_lem j n r.fs (drop at text)
-              ∙ ap (λ (g : Got (Turned (List Filter))). turns_on (filter_turns j n) g) done.got_it
-              ∙ ap (λ (rest : List ℕ). cond done.part.more (filter_turns j n done.part.gathered rest) (got done.part.gathered rest)) (sym done.place.behind);
+              r.whole ∙ ap (λ (m : ℕ). filter_turns (judges table) m r.fs (drop at text)) l ∙ filter_turns_lem (judges table) n r.fs (drop at text)
+              ∙ ap (λ (g : Got (Turned (List Filter))). turns_on (filter_turns (judges table) n) g) done.got_it
+              ∙ ap (λ (rest : List ℕ). cond done.part.more (filter_turns (judges table) n done.part.gathered rest) (got done.part.gathered rest)) (sym done.place.behind);
         }
 
-    comes_by : (b : Bool) → more ≡ b → all_turns text table from ≡ cond b (filter_turns j next.fewer done.part.gathered (drop place text)) (got done.part.gathered (drop place text))
+    comes_by : (b : Bool) → more ≡ b → all_turns text table from ≡ cond b (filter_turns (judges table) next.fewer done.part.gathered (drop place text)) (got done.part.gathered (drop place text))
     comes_by b h =
         next.comes
-        ∙ ap (λ (x : Bool). cond x (filter_turns j next.fewer done.part.gathered (drop place text)) (got done.part.gathered (drop place text))) (sym done.value.same_more ∙ h)
+        ∙ ap (λ (x : Bool). cond x (filter_turns (judges table) next.fewer done.part.gathered (drop place text)) (got done.part.gathered (drop place text))) (sym done.value.same_more ∙ h)
 
     pub turn_on : at < place
     turn_on = done.on

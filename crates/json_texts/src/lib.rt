@@ -2,72 +2,52 @@
 // are read; each takes no more bytes there than the text that it was read from, so that there always is room.
 #![tactic(auto)]
 
-ghost use Rattle.std.specs.Prelude.{◌≡◌, List, [], ◌++◌, ℕ, ◌+◌, ◌*◌, ◌≤◌, ◌<◌, eqb, length, take, drop};
+ghost use Rattle.std.specs.Prelude.{◌≡◌, List, [], ℕ, ◌+◌, ◌*◌, ◌≤◌, ◌<◌, IfOk, eqb, length, take, drop};
 ghost use Rattle.definitions.specs.CallNames.{Slot};
 ghost use Rattle.definitions.specs.JsonForm.{Filter};
 ghost use Rattle.definitions.specs.NamedSets.{find_set};
 ghost use Rattle.definitions.specs.FormReader.{filters_there, read_filters, judges_of};
 ghost use Rattle.definitions.specs.FromJson.{refused_at, too_short, FromJson};
 ghost use Rattle.json_theorems.specs.Turns.{key_string};
-ghost use Rattle.json_scan.specs.Scan.{Tells};
+ghost use Rattle.json_scan.specs.Telling.{place_in, Reads};
 ghost use Rattle.json_filters.specs.Filters.{table_slots, Known, Lent};
 ghost use Rattle.json_texts.specs.Named.{new_name, filter_behind, filter_turn, filter_turns, Written, NamePut, NameRead, Added, Made, AllMade};
 
 use definitions::JsonAnswer;
-use json_filters::FilterRead;
+use json_scan::{Misread, Read, Reading, Refusal};
 
-// A name that was read: the place behind it, and how many bytes it has; or the fault and its place.
-#[derive(Clone, Copy)]
-struct Name {
-    code: u32,
-    at: usize,
-    count: usize,
-}
-
-// A filter with its name that was read: the place behind it in the text and in scratch, and whether there is another.
-#[derive(Clone, Copy)]
+// What a turn wrote: up to where in scratch, and whether there is another.
+#[derive(Clone, Copy, Debug, PartialEq, Eq)]
 struct Turn {
-    code: u32,
-    at: usize,
     end: usize,
     more: bool,
 }
 
-// What was read: how many sets stand in scratch, and up to where; or the fault and its place.
-#[derive(Clone, Copy)]
-struct TextRead {
-    code: u32,
-    at: usize,
+// How many sets stand in scratch, and up to where.
+#[derive(Clone, Copy, Debug, PartialEq, Eq)]
+struct Sets {
     count: usize,
     end: usize,
 }
 
-// A filter's name, stored behind the two lengths that will stand in front of it.
-fn name_there(text: &[u8], at: usize, scratch: &mut [u8], end: usize) -> Name
+// A filter's name, stored behind the two lengths that will stand in front of it: how many bytes it has.
+fn name_there(text: &[u8], at: usize, scratch: &mut [u8], end: usize) -> Reading<usize>
     requires { (at ≤ length text.now) × (length text.now ≤ 1048576) × (3 * length text.now ≤ length scratch.old) × (end < at) }
-    ensures { Tells text.now at (NameRead scratch.old scratch.new at end result.count result.at) (key_string (drop at text.now)) result.code result.at × (length scratch.new ≡ length scratch.old) }
+    ensures { Reads text.now at (λ k count. NameRead scratch.old scratch.new at end count (place_in result) k) (key_string (drop at text.now)) result × (length scratch.new ≡ length scratch.old) }
 {
-    if json_scan::byte(text, at) != 0x22 {
-        return Name {
-            code: 10,
-            at: at,
-            count: 0,
-        };
+    if json_scan::byte(text, at) != b'"' {
+        return Err(Misread {
+            why: Refusal::NotJson,
+            at,
+        });
     }
-    let d = json_strings::decode(text, at + 1, scratch, end + 8);
-    if !d.ok {
-        let s = json_parts::string_there(text, at);
-        return Name {
-            code: s.code,
-            at: s.at,
-            count: 0,
-        };
-    }
-    Name {
-        code: 0,
-        at: d.at,
-        count: d.count,
-    }
+    let Ok(name) = json_strings::decode(text, at + 1, scratch, end + 8) else {
+        return Err(json_parts::string_there(text, at).unwrap_err());
+    };
+    Ok(Read {
+        at: name.at,
+        value: name.count,
+    })
 }
 
 // Whether one of the sets has the name that stands behind them.
@@ -76,32 +56,27 @@ fn is_repeated(scratch: &[u8], end: usize, count: usize) -> bool
     ensures { result ≡ eqb (find_set (take end scratch.now) (take count (drop (end + 8) scratch.now))).code 0 }
 {
     let start = end + 8;
-    let stop = start + count;
-    let found = named_sets::find_set(&scratch[..end], &scratch[start..stop]);
+    let found = named_sets::find_set(&scratch[..end], &scratch[start..start + count]);
     found.code == 0
 }
 
 // A filter's name that was not given before.
-fn new_name(text: &[u8], at: usize, scratch: &mut [u8], end: usize) -> Name
+fn new_name(text: &[u8], at: usize, scratch: &mut [u8], end: usize) -> Reading<usize>
     requires { (at ≤ length text.now) × (length text.now ≤ 1048576) × (3 * length text.now ≤ length scratch.old) × (end < at) }
-    ensures { ((slots : List Slot) (architecture count : ℕ) (fs : List Filter) → Written slots architecture fs count (take end scratch.old) → Tells text.now at (NamePut scratch.old scratch.new end result.count) (new_name fs (drop at text.now)) result.code result.at) × (result.code ≡ 0 → at + result.count + 2 ≤ result.at) × (result.at ≤ length text.now) × (length scratch.new ≡ length scratch.old) }
+    ensures { ((slots : List Slot) (architecture many : ℕ) (fs : List Filter) → Written slots architecture fs many (take end scratch.old) → Reads text.now at (λ k count. NamePut scratch.old scratch.new end count k) (new_name fs (drop at text.now)) result) × IfOk result (λ r. at + r.value + 2 ≤ r.at) × (place_in result ≤ length text.now) × (length scratch.new ≡ length scratch.old) }
 {
     let from = json_scan::skip_blanks(text, at);
-    let name = name_there(text, from, scratch, end);
-    if name.code != 0 {
-        return name;
-    }
-    if is_repeated(scratch, end, name.count) {
-        return Name {
-            code: 12,
+    let name = name_there(text, from, scratch, end)?;
+    if is_repeated(scratch, end, name.value) {
+        return Err(Misread {
+            why: Refusal::GivenTwice,
             at: from,
-            count: 0,
-        };
+        });
     }
-    name
+    Ok(name)
 }
 
-// The filter behind its name: its set, behind the name that stands in scratch, and in front of the name the lengths of both.
+// The filter behind its name: its set, behind the name that stands in scratch, and in front of the name the lengths of both. Says where the set ends.
 fn filter_behind(
     text: &[u8],
     at: usize,
@@ -110,26 +85,16 @@ fn filter_behind(
     scratch: &mut [u8],
     end: usize,
     count: usize,
-) -> FilterRead
+) -> Reading<usize>
     requires { (at ≤ length text.now) × Lent text.now table.now scratch.old × Known architecture × (end + count + 3 ≤ at) }
-    ensures { ((name : List ℕ) → Tells text.now at (Added (table_slots table.now) architecture end count scratch.old scratch.new result.end result.at) (filter_behind (judges_of (table_slots table.now)) name (drop at text.now)) result.code result.at) × (length scratch.new ≡ length scratch.old) }
+    ensures { ((name : List ℕ) → Reads text.now at (λ f spot. Added (table_slots table.now) architecture end count scratch.old scratch.new spot (place_in result) f) (filter_behind (judges_of (table_slots table.now)) name (drop at text.now)) result) × (length scratch.new ≡ length scratch.old) }
 {
-    let colon = json_parts::colon_there(text, at);
-    if colon.code != 0 {
-        return FilterRead {
-            code: colon.code,
-            at: colon.at,
-            end: 0,
-        };
-    }
+    let colon = json_parts::colon_there(text, at)?;
     let place = end + 8 + count;
-    let f = json_filters::filter_there(text, colon.at, table, architecture, scratch, place);
-    if f.code != 0 {
-        return f;
-    }
+    let set = json_filters::filter_there(text, colon.at, table, architecture, scratch, place)?;
     bpf::write_u32(scratch, end, count as u64);
-    bpf::write_u32(scratch, end + 4, (f.end - place) as u64);
-    f
+    bpf::write_u32(scratch, end + 4, (set.value - place) as u64);
+    Ok(set)
 }
 
 // A filter with its name, and whether there is another.
@@ -140,35 +105,20 @@ fn filter_turn(
     architecture: u32,
     scratch: &mut [u8],
     end: usize,
-) -> Turn
+) -> Reading<Turn>
     requires { (at ≤ length text.now) × Lent text.now table.now scratch.old × Known architecture × (end < at) }
-    ensures { ((fs : List Filter) (count : ℕ) → Written (table_slots table.now) architecture fs count (take end scratch.old) → Tells text.now at (Made (table_slots table.now) architecture count end result.end result.at scratch.new result.more) (filter_turn (judges_of (table_slots table.now)) fs (drop at text.now)) result.code result.at) × (length scratch.new ≡ length scratch.old) }
+    ensures { ((fs : List Filter) (count : ℕ) → Written (table_slots table.now) architecture fs count (take end scratch.old) → Reads text.now at (λ u turn. Made (table_slots table.now) architecture count end turn.end (place_in result) scratch.new turn.more u) (filter_turn (judges_of (table_slots table.now)) fs (drop at text.now)) result) × (length scratch.new ≡ length scratch.old) }
 {
-    let name = new_name(text, at, scratch, end);
-    if name.code != 0 {
-        return Turn {
-            code: name.code,
-            at: name.at,
-            end: 0,
-            more: false,
-        };
-    }
-    let f = filter_behind(text, name.at, table, architecture, scratch, end, name.count);
-    if f.code != 0 {
-        return Turn {
-            code: f.code,
-            at: f.at,
-            end: 0,
-            more: false,
-        };
-    }
-    let m = json_parts::more_there(text, f.at, 0x7d);
-    Turn {
-        code: m.code,
-        at: m.at,
-        end: f.end,
-        more: m.more,
-    }
+    let name = new_name(text, at, scratch, end)?;
+    let set = filter_behind(text, name.at, table, architecture, scratch, end, name.value)?;
+    let next = json_parts::more_there(text, set.at, b'}')?;
+    Ok(Read {
+        at: next.at,
+        value: Turn {
+            end: set.value,
+            more: next.value,
+        },
+    })
 }
 
 // The filters of an object that is not empty, from behind its brace.
@@ -178,33 +128,23 @@ fn filters_from(
     table: &[u8],
     architecture: u32,
     scratch: &mut [u8],
-) -> TextRead
+) -> Reading<Sets>
     requires { (from ≤ length text.now) × (0 < from) × Lent text.now table.now scratch.old × Known architecture }
-    ensures { Tells text.now from (AllMade (table_slots table.now) architecture result.count result.end result.at scratch.new) (filter_turns (judges_of (table_slots table.now)) (length (drop from text.now)) [] (drop from text.now)) result.code result.at × (length scratch.new ≡ length scratch.old) }
+    ensures { Reads text.now from (λ fs sets. AllMade (table_slots table.now) architecture sets.count sets.end (place_in result) scratch.new fs) (filter_turns (judges_of (table_slots table.now)) (length (drop from text.now)) [] (drop from text.now)) result × (length scratch.new ≡ length scratch.old) }
 {
     let mut at = from;
     let mut end: usize = 0;
     let mut count: usize = 0;
     loop {
-        let t = filter_turn(text, at, table, architecture, scratch, end);
-        if t.code != 0 {
-            return TextRead {
-                code: t.code,
-                at: t.at,
-                count: 0,
-                end: 0,
-            };
-        }
-        at = t.at;
-        end = t.end;
+        let turn = filter_turn(text, at, table, architecture, scratch, end)?;
+        at = turn.at;
+        end = turn.value.end;
         count += 1;
-        if !t.more {
-            return TextRead {
-                code: 0,
-                at: at,
-                count: count,
-                end: end,
-            };
+        if !turn.value.more {
+            return Ok(Read {
+                at,
+                value: Sets { count, end },
+            });
         }
     }
 }
@@ -216,76 +156,47 @@ fn filters_there(
     table: &[u8],
     architecture: u32,
     scratch: &mut [u8],
-) -> TextRead
+) -> Reading<Sets>
     requires { (at ≤ length text.now) × Lent text.now table.now scratch.old × Known architecture }
-    ensures { Tells text.now at (AllMade (table_slots table.now) architecture result.count result.end result.at scratch.new) (filters_there (judges_of (table_slots table.now)) (drop at text.now)) result.code result.at × (length scratch.new ≡ length scratch.old) }
+    ensures { Reads text.now at (λ fs sets. AllMade (table_slots table.now) architecture sets.count sets.end (place_in result) scratch.new fs) (filters_there (judges_of (table_slots table.now)) (drop at text.now)) result × (length scratch.new ≡ length scratch.old) }
 {
-    let open = json_parts::open_there(text, at, 0x7b);
-    if open.code != 0 {
-        return TextRead {
-            code: open.code,
-            at: open.at,
-            count: 0,
-            end: 0,
-        };
-    }
+    let open = json_parts::open_there(text, at, b'{')?;
     let next = json_scan::skip_blanks(text, open.at);
-    if json_scan::byte(text, next) == 0x7d {
-        return TextRead {
-            code: 0,
+    if json_scan::byte(text, next) == b'}' {
+        return Ok(Read {
             at: next + 1,
-            count: 0,
-            end: 0,
-        };
+            value: Sets { count: 0, end: 0 },
+        });
     }
     filters_from(text, open.at, table, architecture, scratch)
 }
 
 // The whole text: the filters, and nothing but blanks around them.
-fn read_filters(text: &[u8], table: &[u8], architecture: u32, scratch: &mut [u8]) -> TextRead
+fn read_filters(text: &[u8], table: &[u8], architecture: u32, scratch: &mut [u8]) -> Reading<Sets>
     requires { Lent text.now table.now scratch.old × Known architecture }
-    ensures { Tells text.now 0 (AllMade (table_slots table.now) architecture result.count result.end result.at scratch.new) (read_filters (judges_of (table_slots table.now)) text.now) result.code result.at × (length scratch.new ≡ length scratch.old) }
+    ensures { Reads text.now 0 (λ fs sets. AllMade (table_slots table.now) architecture sets.count sets.end (place_in result) scratch.new fs) (read_filters (judges_of (table_slots table.now)) text.now) result × (length scratch.new ≡ length scratch.old) }
 {
     let start = json_scan::skip_blanks(text, 0);
-    let read = filters_there(text, start, table, architecture, scratch);
-    if read.code != 0 {
-        return read;
-    }
+    let read = filters_there(text, start, table, architecture, scratch)?;
     let past = json_scan::skip_blanks(text, read.at);
     if past < text.len() {
-        return TextRead {
-            code: 10,
+        return Err(Misread {
+            why: Refusal::NotJson,
             at: past,
-            count: 0,
-            end: 0,
-        };
+        });
     }
-    TextRead {
-        code: 0,
+    Ok(Read {
         at: past,
-        count: read.count,
-        end: read.end,
-    }
-}
-
-// Copies the first bytes.
-fn copy(from: &[u8], end: usize, out: &mut [u8])
-    requires { (end ≤ length from.now) × (end ≤ length out.old) }
-    ensures { out.new ≡ take end from.now ++ drop end out.old }
-{
-    let mut i: usize = 0;
-    while i < end {
-        out[i] = from[i];
-        i += 1;
-    }
+        value: read.value,
+    })
 }
 
 fn refused(code: u32, at: u32) -> JsonAnswer
     ensures { result ≡ refused_at code at }
 {
     JsonAnswer {
-        code: code,
-        at: at,
+        code,
+        at,
         count: 0,
         end: 0,
     }
@@ -326,18 +237,20 @@ pub fn read_json(
     if scratch.len() < 3 * text.len() {
         return too_short(1, 3 * text.len());
     }
-    let read = read_filters(text, table, architecture, scratch);
-    if read.code != 0 {
-        return refused(read.code, read.at as u32);
-    }
-    if out.len() < read.end {
-        return too_short(2, read.end);
-    }
-    copy(scratch, read.end, out);
-    JsonAnswer {
-        code: 0,
-        at: 0,
-        count: read.count as u32,
-        end: read.end as u32,
+    match read_filters(text, table, architecture, scratch) {
+        Err(fault) => refused(fault.why.code(), fault.at as u32),
+        Ok(read) => {
+            let sets = read.value;
+            if out.len() < sets.end {
+                return too_short(2, sets.end);
+            }
+            out[..sets.end].copy_from_slice(&scratch[..sets.end]);
+            JsonAnswer {
+                code: 0,
+                at: 0,
+                count: sets.count as u32,
+                end: sets.end as u32,
+            }
+        }
     }
 }

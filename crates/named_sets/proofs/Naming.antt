@@ -1,13 +1,13 @@
--- A name compared byte by byte, and the walk to the first set of a name, step by step. Assumes nothing.
+-- A name compared, and the walk to the first set of a name, step by step. Assumes nothing.
 use mathlib.Core.Path.{◌≡◌, refl, ap, sym, ◌∙◌}
 use mathlib.Core.Bool.{Bool, true, false, cond, not, ◌&&◌}
 use mathlib.Core.List.{List, [], ◌∷◌}
-use Prim.Native.Nat.{ℕ, zero, suc, ◌+◌, ◌-◌, ◌≤◌, ◌<◌}
+use Prim.Native.Nat.{ℕ, zero, suc, ◌+◌, ◌≤◌}
 use native.Mathlib.Omega.{arith}
-use native.Mathlib.Numerals.{add-one}
 use lib.Dec.{eqb}
-use lib.ListN.{length, take, drop, get_or, length-drop, drop_of_length-le}
-use lib.Seq.{drop-cons, length-take-le}
+use lib.Pointwise.{pointwise}
+use lib.ListN.{length, take, drop, length-drop}
+use lib.Seq.{length-take-le}
 use borrow.Author.Tests.{eqb-false, eq-eqb, ne_eqb}
 use Rattle.definitions.specs.declared.NamedPlace.{NamedPlace}
 use Rattle.definitions.specs.JsonForm.{same}
@@ -33,38 +33,14 @@ count_differs bytes name at count h e =
     same_length (take count (drop at bytes)) name
     (λ l. e (sym (length-take-le count (drop at bytes) (rw length-drop (omega arith))) ∙ l))
 
--- ---- the loop over a name's bytes: what is left of both decides
+-- ---- bytes that `==` finds alike are the same
 
--- the comparison from byte i on
-abbrev pub rest : List ℕ → ℕ → List ℕ → ℕ → Bool
-rest bytes at name i = same (take (length name - i) (drop (at + i) bytes)) (drop i name)
-
-module _ (bytes : List ℕ) (at : ℕ) (name : List ℕ) (h : at + length name ≤ length bytes) where
-  pub rest_start : same (take (length name) (drop at bytes)) name ≡ rest bytes at name 0
-  rest_start =
-      let here : at + 0 ≡ at = omega arith in
-      let all : length name - 0 ≡ length name = omega arith in
-      rw (here, all)
-
-  rest_cons : (i : ℕ) → i < length name
-      → rest bytes at name i ≡ (eqb (get_or bytes (at + i) 0) (get_or name i 0) && rest bytes at name (i + 1))
-  unfolding same
-  rest_cons i l =
-      let behind : at + (i + 1) ≡ suc (at + i) = omega arith in
-      let left : length name - i ≡ suc (length name - suc i) = omega arith in
-      rw (behind, add-one i, left, drop-cons bytes (at + i) 0 (omega arith), drop-cons name i 0 l)
-
-  pub rest_differs : (i : ℕ) → i < length name → (get_or bytes (at + i) 0 ≡ get_or name i 0 → ⊥) → rest bytes at name i ≡ false
-  rest_differs i l e = rest_cons i l ∙ rw (ne_eqb (get_or bytes (at + i) 0) (get_or name i 0) e)
-
-  pub rest_turn : (i : ℕ) → i < length name → get_or bytes (at + i) 0 ≡ get_or name i 0 → rest bytes at name i ≡ rest bytes at name (i + 1)
-  rest_turn i l e = rest_cons i l ∙ rw (eq-eqb (get_or bytes (at + i) 0) (get_or name i 0) e)
-
-  pub rest_end : (i : ℕ) → length name ≤ i → rest bytes at name i ≡ true
-  unfolding same
-  rest_end i l =
-      let left : length name - i ≡ 0 = omega arith in
-      rw (left, drop_of_length-le name l)
+pub same_compared : (a b : List ℕ) → pointwise eqb a b ≡ same a b
+unfolding same
+same_compared [] [] = refl
+same_compared [] (b ∷ bs) = refl
+same_compared (a ∷ xs) [] = refl
+same_compared (a ∷ xs) (b ∷ bs) = ap (λ (t : Bool). eqb a b && t) (same_compared xs bs)
 
 -- ---- the walk: from a place on it comes to what the whole walk comes to, in enough steps
 

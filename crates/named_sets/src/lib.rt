@@ -11,7 +11,7 @@ fn no_set(code: u32) -> NamedPlace
     ensures { result ≡ no_set code }
 {
     NamedPlace {
-        code: code,
+        code,
         name: 0,
         name_len: 0,
         set: 0,
@@ -43,9 +43,9 @@ pub fn next_set(sets: &[u8], at: u32) -> NamedPlace
     NamedPlace {
         code: 0,
         name: at + 8,
-        name_len: name_len,
+        name_len,
         set: at + 8 + name_len,
-        set_len: set_len,
+        set_len,
         next: at + 8 + name_len + set_len,
     }
 }
@@ -55,14 +55,7 @@ fn is_name(sets: &[u8], at: usize, name: &[u8]) -> bool
     requires { at + length name.now ≤ length sets.now }
     ensures { result ≡ same (take (length name.now) (drop at sets.now)) name.now }
 {
-    let mut i: usize = 0;
-    while i < name.len() {
-        if sets[at + i] != name[i] {
-            return false;
-        }
-        i += 1;
-    }
-    true
+    &sets[at..at + name.len()] == name
 }
 
 // Whether the name at a place, of so many bytes, is this one.
@@ -70,10 +63,7 @@ fn is_named(sets: &[u8], at: u32, count: u32, name: &[u8]) -> bool
     requires { at + count ≤ length sets.now }
     ensures { result ≡ same (take count (drop at sets.now)) name.now }
 {
-    if count as usize != name.len() {
-        return false;
-    }
-    is_name(sets, at as usize, name)
+    count as usize == name.len() && is_name(sets, at as usize, name)
 }
 
 // The first set of a name.
@@ -83,10 +73,7 @@ pub fn find_set(sets: &[u8], name: &[u8]) -> NamedPlace
     let mut at: u32 = 0;
     loop {
         let found = next_set(sets, at);
-        if found.code != 0 {
-            return found;
-        }
-        if is_named(sets, found.name, found.name_len, name) {
+        if found.code != 0 || is_named(sets, found.name, found.name_len, name) {
             return found;
         }
         at = found.next;

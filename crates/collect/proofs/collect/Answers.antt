@@ -8,14 +8,16 @@ use Rattle.collect.proofs.collect.Goals as goal
 pub returns-then-n-eq0 : goal.returns-then-n-eq0
 returns-then-n-eq0 c = λ h. raw_none h c.if-n-eq0.true
 
-pub list_keys-requires : goal.list_keys-requires
-list_keys-requires c = raw_first c.requires
-
 pub sort_keys-requires : goal.sort_keys-requires
 sort_keys-requires c = omega (arith, (raw_sizes c.requires).few, (raw_sizes c.requires).long, (raw_sizes c.requires).small, c.list_keys.auto.s)
 
 pub write_groups-requires : goal.write_groups-requires
-write_groups-requires c = raw_keyed c.requires _ _ (c.list_keys.ensures (raw_first c.requires)) c.sort_keys.ensures.0 c.sort_keys.ensures.1 (c.sort_keys.auto.s ∙ c.list_keys.auto.s) (let d = c.if-n-eq0.false in omega arith)
+write_groups-requires c =
+    raw_keyed c.requires _ _ (c.list_keys.ensures (raw_first c.requires)) c.sort_keys.ensures.0 c.sort_keys.ensures.1 (c.sort_keys.auto.s ∙ c.list_keys.auto.s) (omega arith)
 
 pub returns : goal.returns
-returns c = λ h. raw_collected h _ _ (c.list_keys.ensures (raw_first h)) c.sort_keys.ensures.0 c.sort_keys.ensures.1 (c.sort_keys.auto.s ∙ c.list_keys.auto.s) (let d = c.if-n-eq0.false in omega arith) _ _ _ (c.write_groups.ensures (raw_keyed h _ _ (c.list_keys.ensures (raw_first h)) c.sort_keys.ensures.0 c.sort_keys.ensures.1 (c.sort_keys.auto.s ∙ c.list_keys.auto.s) (let d = c.if-n-eq0.false in omega arith)))
+returns c = λ h.
+    let listed = c.list_keys.ensures (raw_first h) in
+    let long = c.sort_keys.auto.s ∙ c.list_keys.auto.s in
+    raw_collected h _ _ listed c.sort_keys.ensures.0 c.sort_keys.ensures.1 long (omega arith) _ _ _
+    (c.write_groups.ensures (raw_keyed h _ _ listed c.sort_keys.ensures.0 c.sort_keys.ensures.1 long (omega arith)))

@@ -7,6 +7,6 @@ pub returns-then-u32_at-eq0 : goal.returns-then-u32_at-eq0
 unfolding past_entry
 returns-then-u32_at-eq0 c = rw (← c.u32_at.ensures, eq-eqb _ _ c.if-u32_at-eq0.true)
 
-pub returns : goal.returns
+pub returns-else-u32_at-eq0 : goal.returns-else-u32_at-eq0
 unfolding past_entry
-returns c = rw (← c.u32_at.ensures, ne_eqb _ _ c.if-u32_at-eq0.false, ← c.u32_at-2.ensures)
+returns-else-u32_at-eq0 c = rw (← c.u32_at.ensures, ne_eqb _ _ c.if-u32_at-eq0.false, ← c.u32_at-else-u32_at-eq0.ensures)

@@ -5,4 +5,4 @@ use Rattle.collect.proofs.Parts.{part_keys, back_keys, back_front}
 use Rattle.collect.proofs.sort_keys.Goals as goal
 
 pub returns : goal.returns
-returns c = (back_keys c.args.s.now c.args.t c.args.n c.requires.0 c.sort.new.s c.sort.auto.s ∙ c.sort.ensures ∙ ap sorted (part_keys c.args.s.now c.args.t c.args.n c.requires.0), back_front c.args.s.now c.args.t c.args.n c.requires.0 c.sort.new.s c.sort.auto.s)
+returns c = (back_keys c.args.s.now c.args.t c.args.n c.requires c.sort.new.s c.sort.auto.s ∙ c.sort.ensures ∙ ap sorted (part_keys c.args.s.now c.args.t c.args.n c.requires), back_front c.args.s.now c.args.t c.args.n c.requires c.sort.new.s c.sort.auto.s)

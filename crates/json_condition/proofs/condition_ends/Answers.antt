@@ -1,44 +1,30 @@
--- `condition_ends` meets its contract: the fault, or what the fields make.
-use mathlib.Core.Path.{refl, ap, sym, ◌∙◌}
-use mathlib.Core.List.{List}
-use Prim.Native.Nat.{ℕ}
+-- `condition_ends` meets its contract: what the fields make, or the fault.
+use mathlib.Core.Path.{refl, sym, ◌∙◌}
 use native.Mathlib.Omega.{arith}
-use borrow.Author.Tests.{not-true, not-false}
-use Rattle.definitions.specs.JsonReader.{stop}
-use Rattle.definitions.specs.FormReader.{not_of_form}
 use Rattle.json_condition.proofs.Reading as reading
 use Rattle.json_condition.proofs.Fields as fields
-use Rattle.json_condition.proofs.Gathering as gathering
 use Rattle.json_condition.proofs.condition_ends.Goals as goal
+use Rattle.json_condition.proofs.condition_ends.Goals.{in_default-via-in-Some+in-Some+in-Some+in_default, in_default-via-in-Some+in-Some+in_default, in_default-via-in-Some+in_default, in_default-via-in_default}
 
-pub returns-then-g-ne0 : goal.returns-then-g-ne0
-returns-then-g-ne0 c = λ slots text inside over left. reading.told (reading.fault_of (gathering.is_broken left over c.if-g-ne0.true) (fields.object_stops slots _ _ _)) c.refused.ensures
-
-pub overflow_sub-end : goal.overflow_sub-end
-overflow_sub-end c = omega (arith, c.requires c.if-g-ne0.false)
-
-pub returns-then-not-complete : goal.returns-then-not-complete
-returns-then-not-complete c = λ slots text inside over left.
-    let e = gathering.is_over left over c.if-g-ne0.false in
-    reading.told (record {
-      same = fields.object_missing slots _ _ _ e.same (fields.kept_missing _ _ e.kept (sym c.complete.ensures ∙ not-true _ c.if-not-complete.true-raw)) ∙ ap (λ (l : List ℕ). stop not_of_form l) (sym e.brace);
-      fault = omega arith;
-      inside = omega (arith, e.inside);
-    }) c.refused-then-not-complete.ensures
+pub returns-in_default : goal.returns-in_default
+returns-in_default c = λ slots text inside e.
+    elim c.in_default.branch [
+      | in_default-via-in-Some+in-Some+in-Some+in_default w ↦ reading.tell_fault (fields.missed slots e (fields.no_value _ _ e.kept w.in_default.is-3))
+      | in_default-via-in-Some+in-Some+in_default w ↦ reading.tell_fault (fields.missed slots e (fields.no_comparison _ _ e.kept w.in_default.is-2))
+      | in_default-via-in-Some+in_default w ↦ reading.tell_fault (fields.missed slots e (fields.no_width _ _ e.kept w.in_default.is-1))
+      | in_default-via-in_default w ↦ reading.tell_fault (fields.missed slots e (fields.no_index _ _ e.kept w.in_default.is-0))
+    ]
 
 pub returns-then-not-fits : goal.returns-then-not-fits
-returns-then-not-fits c = λ slots text inside over left.
-    let e = gathering.is_over left over c.if-g-ne0.false in
-    let m = fields.kept_whole _ _ e.kept (sym c.complete.ensures ∙ not-false _ c.if-not-complete.false-raw) in
-    reading.told (record {
-      same = fields.object_wide slots _ _ _ e.same _ m.is (sym (c.fits.ensures ∙ fields.fits_is _ _ m) ∙ not-true _ c.if-not-fits.true-raw);
+returns-then-not-fits c = λ slots text inside e.
+    let m = fields.kept_whole _ _ e.kept _ _ _ _ c.in-Some-Some-Some-Some.is-0 c.in-Some-Some-Some-Some.is-1 c.in-Some-Some-Some-Some.is-2 c.in-Some-Some-Some-Some.is-3 in
+    reading.tell_fault (record {
+      same = fields.object_wide slots _ _ _ e.same _ m (sym c.fits.ensures ∙ c.if-not-fits.true);
       fault = omega arith;
       inside = inside;
-    }) c.refused-then-not-fits.ensures
+    })
 
 pub returns : goal.returns
-returns c = λ slots text inside over left.
-    let e = gathering.is_over left over c.if-g-ne0.false in
-    let m = fields.kept_whole _ _ e.kept (sym c.complete.ensures ∙ not-false _ c.if-not-complete.false-raw) in
-    reading.tell_read m.condition refl (fields.object_fine slots _ _ _ e.same _ m.is (sym (c.fits.ensures ∙ fields.fits_is _ _ m) ∙ not-false _ c.if-not-fits.false-raw))
-    e.on e.inside (record { index = m.index; width = m.width; operator = m.operator; value = m.value; mask = m.mask })
+returns c = λ slots text inside e.
+    let m = fields.kept_whole _ _ e.kept _ _ _ _ c.in-Some-Some-Some-Some.is-0 c.in-Some-Some-Some-Some.is-1 c.in-Some-Some-Some-Some.is-2 c.in-Some-Some-Some-Some.is-3 in
+    reading.tell_read _ refl (fields.object_fine slots _ _ _ e.same _ m (sym c.fits.ensures ∙ c.if-not-fits.false)) e.on e.inside refl

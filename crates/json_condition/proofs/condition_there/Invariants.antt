@@ -2,12 +2,12 @@
 use lib.ListN.{drop}
 use mathlib.Core.List.{List}
 use Rattle.definitions.specs.CallNames.{Slot}
-use Rattle.json_condition.specs.Gathering.{Left, condition_object}
+use Rattle.json_condition.specs.Gathering.{Onward, condition_object}
 use Rattle.json_condition.proofs.Gathering as gathering
 use Rattle.json_condition.proofs.condition_there.Given as goal
 
-abbrev pub invariant-loop-g : goal.invariant-loop-g
-invariant-loop-g l = (slots : List Slot) → Left slots l.text l.at (condition_object slots (drop l.at l.text)) l.g
+abbrev pub invariant-loop-turn : goal.invariant-loop-turn
+invariant-loop-turn l = (slots : List Slot) → Onward slots l.text l.at (condition_object slots (drop l.at l.text)) l.turn
 
-abbrev pub decreases-loop-g : goal.decreases-loop-g
-decreases-loop-g l = gathering.to_come l.text l.g
+abbrev pub decreases-loop-turn : goal.decreases-loop-turn
+decreases-loop-turn l = gathering.to_come l.text l.turn

@@ -6,5 +6,5 @@ use Rattle.json_condition.proofs.operator_there.Goals as goal
 pub returns-then-stands : goal.returns-then-stands
 returns-then-stands c = reading.tell_same (reading.operator_word _ (sym c.stands.ensures ∙ c.if-stands.true)) c.operator_word.ensures
 
-pub returns : goal.returns
-returns c = reading.tell_same (reading.operator_object _ (sym c.stands.ensures ∙ c.if-stands.false)) c.operator_masked.ensures
+pub returns-else-stands : goal.returns-else-stands
+returns-else-stands c = reading.tell_same (reading.operator_object _ (sym c.stands.ensures ∙ c.if-stands.false)) c.operator_masked.ensures

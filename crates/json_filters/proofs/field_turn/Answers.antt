@@ -1,73 +1,77 @@
--- src/lib.rt:174:9
-use mathlib.Core.Path.{sym, ◌∙◌}
+-- `field_turn` meets its contract: a turn of the reader, step by step.
+use mathlib.Core.Path.{refl, sym, ◌∙◌}
 use native.Mathlib.Omega.{arith}
 use Rattle.definitions.specs.JsonForm.{filter_keys}
 use Rattle.json_parts.specs.Kinds.{keys_of}
-use Rattle.json_scan.proofs.Telling.{told_inside}
+use Rattle.json_scan.proofs.Telling.{told_inside, refused}
 use Rattle.json_scan.proofs.Fields.{skipped, key_stops, key_twice, key_came, colon_stops, colon_came, value_stops, turn_told}
+use Rattle.json_lines.proofs.Steps.{handed}
 use Rattle.json_filters.proofs.Gathering.{given_is, not_held, field_small, untouched}
-use Rattle.json_filters.proofs.Turning.{closed_behind}
+use Rattle.json_filters.proofs.Turning.{closed_behind, more_stops}
 use Rattle.json_filters.proofs.field_turn.Goals as goal
 
--- src/lib.rt:177:9
-pub returns-then-key-ne0 : goal.returns-then-key-ne0
+pub returns-in_err-key : goal.returns-in_err-key
 unfolding keys_of
-returns-then-key-ne0 c = (
-  (λ ts g. rw c.stopped.ensures (key_stops filter_keys _ ts (skipped c.requires.0 c.skip_blanks-from.ensures) c.field_there-key.ensures c.if-key-ne0.true)),
+returns-in_err-key c = (
+  (λ ts g. handed _ _ c.from_residual.ensures.1 (key_stops filter_keys _ ts (skipped c.requires.0 c.skip_blanks-from.ensures) c.in_err-key.ensures (refused _))),
   untouched _ _,
 )
 
--- src/lib.rt:180:9
 pub returns-then-is_given : goal.returns-then-is_given
 unfolding keys_of
 returns-then-is_given c = (
   (λ ts g.
-      rw c.stopped-then-is_given.ensures (key_twice filter_keys _ ts (skipped c.requires.0 c.skip_blanks-from.ensures) c.field_there-key.ensures c.if-key-ne0.false
-      (given_is g _ (field_small c.field_there-key.ensures c.if-key-ne0.false) ∙ sym c.is_given.ensures ∙ c.if-is_given.true))),
+      key_twice filter_keys _ ts (skipped c.requires.0 c.skip_blanks-from.ensures) c.in_ok-key.ensures refl
+      (given_is g _ (field_small c.in_ok-key.ensures refl) ∙ sym c.is_given.ensures ∙ c.if-is_given.true)),
   untouched _ _,
 )
 
--- src/lib.rt:182:9
-pub colon_there-colon-requires : goal.colon_there-colon-requires
+pub colon_there-requires : goal.colon_there-requires
 unfolding keys_of
-colon_there-colon-requires c = (told_inside c.field_there-key.ensures, c.requires.1.short)
+colon_there-requires c = told_inside c.in_ok-key.ensures
 
--- src/lib.rt:184:9
-pub returns-then-colon-ne0 : goal.returns-then-colon-ne0
+pub returns-in_err-colon : goal.returns-in_err-colon
 unfolding keys_of
-returns-then-colon-ne0 c = (
-  (λ ts g. rw c.stopped-then-colon-ne0.ensures (colon_stops _ (key_came ts (skipped c.requires.0 c.skip_blanks-from.ensures) c.field_there-key.ensures c.if-key-ne0.false
-      (given_is g _ (field_small c.field_there-key.ensures c.if-key-ne0.false) ∙ sym c.is_given.ensures ∙ c.if-is_given.false)) c.colon_there-colon.ensures c.if-colon-ne0.true)),
-  untouched _ _,
-)
-
--- src/lib.rt:186:9
-pub value_there-value-requires : goal.value_there-value-requires
-unfolding keys_of
-value_there-value-requires c = (told_inside c.colon_there-colon.ensures, c.requires.1, field_small c.field_there-key.ensures c.if-key-ne0.false)
-
--- src/lib.rt:189:9
-pub returns-then-value-ne0 : goal.returns-then-value-ne0
-unfolding keys_of
-returns-then-value-ne0 c = (
+returns-in_err-colon c = (
   (λ ts g.
-      let new = given_is g _ (field_small c.field_there-key.ensures c.if-key-ne0.false) ∙ sym c.is_given.ensures ∙ c.if-is_given.false in
-      rw c.stopped-then-value-ne0.ensures (value_stops _ (colon_came (key_came ts (skipped c.requires.0 c.skip_blanks-from.ensures) c.field_there-key.ensures c.if-key-ne0.false new) c.colon_there-colon.ensures c.if-colon-ne0.false)
-      (c.value_there-value.ensures.0.on ts g (not_held _ ts new)) c.if-value-ne0.true)),
-  c.value_there-value.ensures.1,
+      handed _ _ c.from_residual-in_err-colon.ensures.1
+      (colon_stops _ (key_came ts (skipped c.requires.0 c.skip_blanks-from.ensures) c.in_ok-key.ensures refl (given_is g _ (field_small c.in_ok-key.ensures refl) ∙ sym c.is_given.ensures ∙ c.if-is_given.false)) c.in_err-colon.ensures (refused _))),
+  untouched _ _,
 )
 
--- src/lib.rt:191:9
-pub more_there-more-requires : goal.more_there-more-requires
-more_there-more-requires c = (c.value_there-value.ensures.0.inside, c.requires.1.short, omega arith)
+pub value_there-requires : goal.value_there-requires
+unfolding keys_of
+value_there-requires c = (told_inside c.in_ok-colon.ensures, c.requires.1, field_small c.in_ok-key.ensures refl)
 
--- src/lib.rt:170:1
+pub returns-in_err-parts : goal.returns-in_err-parts
+unfolding keys_of
+returns-in_err-parts c = (
+  (λ ts g.
+      let new = given_is g _ (field_small c.in_ok-key.ensures refl) ∙ sym c.is_given.ensures ∙ c.if-is_given.false in
+      handed _ _ c.from_residual-in_err-parts.ensures.1
+      (value_stops _ (colon_came (key_came ts (skipped c.requires.0 c.skip_blanks-from.ensures) c.in_ok-key.ensures refl new) c.in_ok-colon.ensures refl) (c.in_err-parts.ensures.0.on ts g (not_held _ ts new)) (refused _))),
+  c.in_err-parts.ensures.1,
+)
+
+pub more_there-requires : goal.more_there-requires
+more_there-requires c = (c.in_ok-parts.ensures.0.inside, omega arith)
+
+pub returns-in_err-more : goal.returns-in_err-more
+unfolding keys_of
+returns-in_err-more c = (
+  (λ ts g.
+      let new = given_is g _ (field_small c.in_ok-key.ensures refl) ∙ sym c.is_given.ensures ∙ c.if-is_given.false in
+      handed _ _ c.from_residual-in_err-more.ensures.1
+      (more_stops _ (colon_came (key_came ts (skipped c.requires.0 c.skip_blanks-from.ensures) c.in_ok-key.ensures refl new) c.in_ok-colon.ensures refl) (c.in_ok-parts.ensures.0.on ts g (not_held _ ts new)) c.in_err-more.ensures (refused _))),
+  c.in_ok-parts.ensures.1,
+)
+
 pub returns : goal.returns
 unfolding keys_of
 returns c = (
   (λ ts g.
-      let new = given_is g _ (field_small c.field_there-key.ensures c.if-key-ne0.false) ∙ sym c.is_given.ensures ∙ c.if-is_given.false in
-      turn_told _ (colon_came (key_came ts (skipped c.requires.0 c.skip_blanks-from.ensures) c.field_there-key.ensures c.if-key-ne0.false new) c.colon_there-colon.ensures c.if-colon-ne0.false)
-      (c.value_there-value.ensures.0.on ts g (not_held _ ts new)) c.if-value-ne0.false c.more_there-more.ensures _ (λ a h. record { gathered = h; closed = closed_behind c.more_there-more.ensures })),
-  c.value_there-value.ensures.1,
+      let new = given_is g _ (field_small c.in_ok-key.ensures refl) ∙ sym c.is_given.ensures ∙ c.if-is_given.false in
+      turn_told _ (colon_came (key_came ts (skipped c.requires.0 c.skip_blanks-from.ensures) c.in_ok-key.ensures refl new) c.in_ok-colon.ensures refl)
+      (c.in_ok-parts.ensures.0.on ts g (not_held _ ts new)) refl c.in_ok-more.ensures _ (λ a h. record { gathered = h; closed = closed_behind c.in_ok-more.ensures })),
+  c.in_ok-parts.ensures.1,
 )

@@ -1,17 +1,22 @@
--- src/lib.rt:144:50
+-- `value_there` meets its contract: one field more is gathered.
 use native.Mathlib.Omega.{arith}
-use Rattle.json_filters.proofs.Gathering.{itself, lines_value, mismatch_value, match_value, untouched}
+use Rattle.json_filters.proofs.Gathering.{itself, lines_value, mismatch_value, match_value, lines_stop, mismatch_stop, match_stop, untouched, front_kept}
 use Rattle.json_filters.proofs.value_there.Goals as goal
 
--- src/lib.rt:145:9
-pub returns-then-field-eq2 : goal.returns-then-field-eq2
-returns-then-field-eq2 c =
-    lines_value {before = c.args.scratch.now} c.if-field-eq2.true c.lines_there-lines.ensures.0 c.with_lines.ensures c.lines_there-lines.ensures.1 (omega (arith, c.requires.1.room)) (itself _)
+pub returns-in_err-action-in-0 : goal.returns-in_err-action-in-0
+returns-in_err-action-in-0 c = (mismatch_stop _ c.in-0.is c.from_residual.ensures.1 c.in_err-action-in-0.ensures, untouched _ _)
 
--- src/lib.rt:154:9
-pub returns-then-field-eq0 : goal.returns-then-field-eq0
-returns-then-field-eq0 c = (mismatch_value c.if-field-eq0.true c.action_there-action.ensures c.with_mismatch.ensures, untouched _ _)
+pub returns-in_ok-action-in-0 : goal.returns-in_ok-action-in-0
+returns-in_ok-action-in-0 c = (mismatch_value c.in-0.is c.in_ok-action-in-0.ensures, untouched _ _)
 
--- src/lib.rt:131:1
-pub returns : goal.returns
-returns c = (match_value (omega (arith, c.requires.2, c.if-field-eq2.false, c.if-field-eq0.false)) c.action_there-action.ensures c.with_match.ensures, untouched _ _)
+pub returns-in_err-action-in-1 : goal.returns-in_err-action-in-1
+returns-in_err-action-in-1 c = (match_stop _ c.in-1.is c.from_residual-in_err-action-in-1.ensures.1 c.in_err-action-in-1.ensures, untouched _ _)
+
+pub returns-in_ok-action-in-1 : goal.returns-in_ok-action-in-1
+returns-in_ok-action-in-1 c = (match_value c.in-1.is c.in_ok-action-in-1.ensures, untouched _ _)
+
+pub returns-in_err-lines-in_default : goal.returns-in_err-lines-in_default
+returns-in_err-lines-in_default c = (lines_stop _ (omega (arith, c.requires.2)) c.from_residual-in_err-lines-in_default.ensures.1 c.in_err-lines-in_default.ensures.0, front_kept _ _ c.in_err-lines-in_default.ensures.1 (omega (arith, c.requires.1.room)) (itself _))
+
+pub returns-in_ok-lines-in_default : goal.returns-in_ok-lines-in_default
+returns-in_ok-lines-in_default c = (lines_value (omega (arith, c.requires.2)) c.in_ok-lines-in_default.ensures.0 (omega (arith, c.requires.1.room)) (itself _), front_kept _ _ c.in_ok-lines-in_default.ensures.1 (omega (arith, c.requires.1.room)) (itself _))

@@ -2,35 +2,22 @@
 use mathlib.Core.Path.{refl, sym, ◌∙◌}
 use native.Mathlib.Omega.{arith}
 use Rattle.definitions.specs.FormReader.{judges_of}
+use Rattle.json_scan.proofs.Telling.{refused}
 use Rattle.json_lines.proofs.Args.{args_null, args_stopped, args_empty, args_filled}
+use Rattle.json_lines.proofs.Steps.{handed, no_value}
 use Rattle.json_lines.proofs.args_there.Goals as goal
 
-pub begins-requires : goal.begins-requires
-begins-requires c = omega arith
+pub returns-in_err-null : goal.returns-in_err-null
+returns-in_err-null c = (λ slots. handed _ _ c.from_residual.ensures.1 (args_null (judges_of slots) (sym c.if-stands.true ∙ c.stands.ensures) c.in_err-null.ensures (no_value _ _ _ c.from_residual.ensures.1)), refl)
 
-pub comment_there-nothing-requires : goal.comment_there-nothing-requires
-comment_there-nothing-requires c = (c.requires.0, c.requires.1)
+pub returns-then-stands : goal.returns-then-stands
+returns-then-stands c = (λ slots. args_null (judges_of slots) (sym c.if-stands.true ∙ c.stands.ensures) c.in_ok-null.ensures (refl, refl), refl)
 
-pub returns-then-begins : goal.returns-then-begins
-returns-then-begins c = (λ slots. args_null (judges_of slots) (sym c.if-begins.true ∙ c.begins.ensures) c.comment_there-nothing.ensures, refl)
+pub returns-in_err-args : goal.returns-in_err-args
+returns-in_err-args c = (λ slots. handed _ _ c.from_residual-in_err-args.ensures.1 (args_stopped slots (sym c.if-stands.false ∙ c.stands.ensures) (c.in_err-args.ensures.0 slots) (refused _)), c.in_err-args.ensures.1)
 
-pub conditions_there-args-requires : goal.conditions_there-args-requires
-conditions_there-args-requires c = (c.requires.0, c.requires.1, c.requires.2, c.requires.3)
+pub returns-in-0 : goal.returns-in-0
+returns-in-0 c = (λ slots. args_empty slots (sym c.if-stands.false ∙ c.stands.ensures) (c.in_ok-args.ensures.0 slots) refl c.requires.0 c.in-0.is, c.in_ok-args.ensures.1)
 
-pub shape_of-raw-then-args-ne0 : goal.shape_of-raw-then-args-ne0
-shape_of-raw-then-args-ne0 c = c.conditions_there-args.ensures.2
-
-pub returns-then-args-ne0 : goal.returns-then-args-ne0
-returns-then-args-ne0 c = (λ slots. args_stopped slots (sym c.if-begins.false ∙ c.begins.ensures) (c.conditions_there-args.ensures.0 slots) c.if-args-ne0.true, c.conditions_there-args.ensures.2)
-
-pub shape_of-raw-then-args-eq0 : goal.shape_of-raw-then-args-eq0
-shape_of-raw-then-args-eq0 c = c.conditions_there-args.ensures.2
-
-pub returns-then-args-eq0 : goal.returns-then-args-eq0
-returns-then-args-eq0 c = (λ slots. args_empty slots (sym c.if-begins.false ∙ c.begins.ensures) (c.conditions_there-args.ensures.0 slots) c.if-args-ne0.false c.requires.0 c.if-args-eq0.true, c.conditions_there-args.ensures.2)
-
-pub shape_of-raw : goal.shape_of-raw
-shape_of-raw c = c.conditions_there-args.ensures.2
-
-pub returns : goal.returns
-returns c = (λ slots. args_filled slots (sym c.if-begins.false ∙ c.begins.ensures) (c.conditions_there-args.ensures.0 slots) c.if-args-ne0.false c.if-args-eq0.false c.conditions_there-args.ensures.1, c.conditions_there-args.ensures.2)
+pub returns-in_default : goal.returns-in_default
+returns-in_default c = (λ slots. args_filled slots (sym c.if-stands.false ∙ c.stands.ensures) (c.in_ok-args.ensures.0 slots) refl (λ e. omega arith), c.in_ok-args.ensures.1)

@@ -1,9 +1,7 @@
 use Prim.Native.Nat.{◌-◌}
+use lib.ListN.{take, drop}
 use Rattle.json_numbers.proofs.Counting as laws
 use Rattle.json_numbers.proofs.read_natural.Given as goal
 
-abbrev pub invariant-loop-at : goal.invariant-loop-at
-invariant-loop-at l = laws.Reading l.text l.from l.to l.most l.at l.v
-
-abbrev pub decreases-loop-at : goal.decreases-loop-at
-decreases-loop-at l = l.to - l.at
+abbrev pub invariant-loop-b : goal.invariant-loop-b
+invariant-loop-b l = laws.Reading (take (l.to - l.from) (drop l.from l.text)) l.most l.b-index l.value

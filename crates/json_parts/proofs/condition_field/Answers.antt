@@ -1,7 +1,28 @@
+use mathlib.Core.Path.{sym, ◌∙◌}
 use Rattle.definitions.specs.Word.{number_at, number_of}
 use Rattle.definitions.specs.Json.{ascii}
 use Rattle.json_parts.proofs.condition_field.Goals as goal
 
-pub returns : goal.returns
+pub returns-then-is_word : goal.returns-then-is_word
 unfolding number_at number_of ascii
-returns c = cc
+returns-then-is_word c = rw (sym c.is_word.ensures ∙ c.if-is_word.true)
+
+pub returns-then-is_word-2 : goal.returns-then-is_word-2
+unfolding number_at number_of ascii
+returns-then-is_word-2 c = rw (sym c.is_word.ensures ∙ c.if-is_word.false, sym c.is_word-else-is_word.ensures ∙ c.if-is_word-2.true)
+
+pub returns-then-is_word-3 : goal.returns-then-is_word-3
+unfolding number_at number_of ascii
+returns-then-is_word-3 c = rw (sym c.is_word.ensures ∙ c.if-is_word.false, sym c.is_word-else-is_word.ensures ∙ c.if-is_word-2.false, sym c.is_word-else-is_word-2.ensures ∙ c.if-is_word-3.true)
+
+pub returns-then-is_word-4 : goal.returns-then-is_word-4
+unfolding number_at number_of ascii
+returns-then-is_word-4 c = rw (sym c.is_word.ensures ∙ c.if-is_word.false, sym c.is_word-else-is_word.ensures ∙ c.if-is_word-2.false, sym c.is_word-else-is_word-2.ensures ∙ c.if-is_word-3.false, sym c.is_word-else-is_word-3.ensures ∙ c.if-is_word-4.true)
+
+pub returns-then-is_word-5 : goal.returns-then-is_word-5
+unfolding number_at number_of ascii
+returns-then-is_word-5 c = rw (sym c.is_word.ensures ∙ c.if-is_word.false, sym c.is_word-else-is_word.ensures ∙ c.if-is_word-2.false, sym c.is_word-else-is_word-2.ensures ∙ c.if-is_word-3.false, sym c.is_word-else-is_word-3.ensures ∙ c.if-is_word-4.false, sym c.is_word-else-is_word-4.ensures ∙ c.if-is_word-5.true)
+
+pub returns-else-is_word-5 : goal.returns-else-is_word-5
+unfolding number_at number_of ascii
+returns-else-is_word-5 c = rw (sym c.is_word.ensures ∙ c.if-is_word.false, sym c.is_word-else-is_word.ensures ∙ c.if-is_word-2.false, sym c.is_word-else-is_word-2.ensures ∙ c.if-is_word-3.false, sym c.is_word-else-is_word-3.ensures ∙ c.if-is_word-4.false, sym c.is_word-else-is_word-4.ensures ∙ c.if-is_word-5.false)

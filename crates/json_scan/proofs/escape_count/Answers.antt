@@ -1,32 +1,36 @@
 use mathlib.Core.Path.{ap, sym, ◌∙◌}
-use mathlib.Core.Bool.{Bool, cond, not}
+use mathlib.Core.Bool.{not}
+use native.Mathlib.Omega.{arith}
 use Prim.Native.Nat.{◌+◌}
+use Rattle.std.specs.Bool.{then_some}
 use Rattle.json_scan.proofs.Scanning as laws
 use Rattle.json_scan.proofs.escape_count.Goals as goal
-
-pub returns-then-text-at : goal.returns-then-text-at
-returns-then-text-at c = laws.escape_short c.args.text.now c.args.at c.if-text-at.true
+use Rattle.json_scan.proofs.escape_count.Goals.{then-byte-ne92-via-then-byte-ne92, then-byte-ne92-via-else-byte-ne92+then-byte-ne117}
 
 pub returns-then-e-ne117 : goal.returns-then-e-ne117
-returns-then-e-ne117 c = c.counted.ensures ∙ ap (λ (t : Bool). cond t 2 0) c.is_short.ensures ∙ sym (laws.escape_letter c.args.text.now c.args.at c.if-e-ne117.true)
+returns-then-e-ne117 c = c.then_some.ensures ∙ rw (c.is_short.ensures, c.byte-e.ensures) (sym (laws.escape_letter c.args.text.now c.args.at (λ e. c.if-e-ne117.true (c.byte-e.ensures ∙ e))))
 
-pub returns-then-u-eq65536 : goal.returns-then-u-eq65536
-returns-then-u-eq65536 c = laws.escape_none c.args.text.now c.args.at c.if-e-ne117.false (laws.unit_none c.args.text.now (c.args.at + 2) _ c.unit_at-u.ensures c.if-u-eq65536.true)
+pub unit_at-requires : goal.unit_at-requires
+unit_at-requires c = omega (arith, laws.inside c.args.text.now (c.args.at + 1) 0x75 (sym c.byte-e.ensures ∙ c.if-e-ne117.false) (omega arith))
 
-pub returns-then-text-at-2 : goal.returns-then-text-at-2
-returns-then-text-at-2 c = laws.pair_short c.args.text.now c.args.at c.if-e-ne117.false _ (laws.unit_some c.args.text.now (c.args.at + 2) _ c.unit_at-u.ensures c.if-u-eq65536.false) (sym c.within.ensures ∙ c.if-within.true) c.if-text-at-2.true
+pub returns-in_err-u : goal.returns-in_err-u
+returns-in_err-u c = c.from_residual.ensures ∙ laws.escape_none c.args.text.now c.args.at (sym c.byte-e.ensures ∙ c.if-e-ne117.false) (laws.option_none c.in_err-u.ensures.0)
 
-pub returns-then-text-at-ne92 : goal.returns-then-text-at-ne92
-returns-then-text-at-ne92 c = laws.pair_6 c.args.text.now c.args.at c.if-e-ne117.false _ (laws.unit_some c.args.text.now (c.args.at + 2) _ c.unit_at-u.ensures c.if-u-eq65536.false) (sym c.within.ensures ∙ c.if-within.true) c.if-text-at-ne92.true
+pub returns-then-not-is_high : goal.returns-then-not-is_high
+returns-then-not-is_high c = c.then_some-then-not-is_high.ensures ∙ ap (λ t. then_some (not t) 6) c.is_low.ensures ∙ laws.escape_single c.args.text.now c.args.at (sym c.byte-e.ensures ∙ c.if-e-ne117.false) _ (laws.option_some c.in_ok-u.ensures.0) (sym c.is_high.ensures ∙ c.if-not-is_high.true)
 
-pub returns-then-text-at-ne117 : goal.returns-then-text-at-ne117
-returns-then-text-at-ne117 c = laws.pair_7 c.args.text.now c.args.at c.if-e-ne117.false _ (laws.unit_some c.args.text.now (c.args.at + 2) _ c.unit_at-u.ensures c.if-u-eq65536.false) (sym c.within.ensures ∙ c.if-within.true) c.if-text-at-ne92.false c.if-text-at-ne117.true
+pub returns-then-byte-ne92 : goal.returns-then-byte-ne92
+returns-then-byte-ne92 c =
+    elim c.then-byte-ne92.branch [
+      | then-byte-ne92-via-then-byte-ne92 w ↦ laws.pair_6 c.args.text.now c.args.at (sym c.byte-e.ensures ∙ c.if-e-ne117.false) _ (laws.option_some c.in_ok-u.ensures.0) (sym c.is_high.ensures ∙ c.if-not-is_high.false) (λ e. w.if-byte-ne92.true (c.byte.ensures ∙ e))
+      | then-byte-ne92-via-else-byte-ne92+then-byte-ne117 w ↦ laws.pair_7 c.args.text.now c.args.at (sym c.byte-e.ensures ∙ c.if-e-ne117.false) _ (laws.option_some c.in_ok-u.ensures.0) (sym c.is_high.ensures ∙ c.if-not-is_high.false) (sym c.byte.ensures ∙ w.if-byte-ne92.false) (λ e. w.if-byte-ne117.true (w.byte-else-byte-ne92.ensures ∙ e))
+    ]
 
-pub returns-then-v-eq65536 : goal.returns-then-v-eq65536
-returns-then-v-eq65536 c = laws.pair_none c.args.text.now c.args.at c.if-e-ne117.false _ (laws.unit_some c.args.text.now (c.args.at + 2) _ c.unit_at-u.ensures c.if-u-eq65536.false) (sym c.within.ensures ∙ c.if-within.true) c.if-text-at-ne92.false c.if-text-at-ne117.false (laws.unit_none c.args.text.now (c.args.at + 8) _ c.unit_at-v.ensures c.if-v-eq65536.true)
+pub unit_at-requires-2 : goal.unit_at-requires-2
+unit_at-requires-2 c = omega (arith, laws.inside c.args.text.now (c.args.at + 7) 0x75 (sym c.byte-else-byte-ne92.ensures ∙ c.if-byte-ne117.false) (omega arith))
 
-pub returns-then-within : goal.returns-then-within
-returns-then-within c = c.counted-then-within.ensures ∙ ap (λ (t : Bool). cond t 12 0) c.within-then-within.ensures ∙ laws.pair_whole c.args.text.now c.args.at c.if-e-ne117.false _ (laws.unit_some c.args.text.now (c.args.at + 2) _ c.unit_at-u.ensures c.if-u-eq65536.false) (sym c.within.ensures ∙ c.if-within.true) _ c.if-text-at-ne92.false c.if-text-at-ne117.false (laws.unit_some c.args.text.now (c.args.at + 8) _ c.unit_at-v.ensures c.if-v-eq65536.false)
+pub returns-in_err-v : goal.returns-in_err-v
+returns-in_err-v c = c.from_residual-in_err-v.ensures ∙ laws.pair_none c.args.text.now c.args.at (sym c.byte-e.ensures ∙ c.if-e-ne117.false) _ (laws.option_some c.in_ok-u.ensures.0) (sym c.is_high.ensures ∙ c.if-not-is_high.false) (sym c.byte.ensures ∙ c.if-byte-ne92.false) (sym c.byte-else-byte-ne92.ensures ∙ c.if-byte-ne117.false) (laws.option_none c.in_err-v.ensures.0)
 
 pub returns : goal.returns
-returns c = c.counted-2.ensures ∙ ap (λ (t : Bool). cond (not t) 6 0) c.within-2.ensures ∙ laws.escape_single c.args.text.now c.args.at c.if-e-ne117.false _ (laws.unit_some c.args.text.now (c.args.at + 2) _ c.unit_at-u.ensures c.if-u-eq65536.false) (sym c.within.ensures ∙ c.if-within.false)
+returns c = c.then_some-2.ensures ∙ ap (λ t. then_some t 12) c.is_low-2.ensures ∙ laws.pair_whole c.args.text.now c.args.at (sym c.byte-e.ensures ∙ c.if-e-ne117.false) _ (laws.option_some c.in_ok-u.ensures.0) (sym c.is_high.ensures ∙ c.if-not-is_high.false) _ (sym c.byte.ensures ∙ c.if-byte-ne92.false) (sym c.byte-else-byte-ne92.ensures ∙ c.if-byte-ne117.false) (laws.option_some c.in_ok-v.ensures.0)

@@ -1,64 +1,47 @@
--- src/lib.rt:111:8
+use mathlib.Core.Path.{sym, ◌∙◌}
+use Rattle.json_scan.proofs.Scanning.{option_none, option_some}
 use native.Mathlib.Omega.{arith}
 use Rattle.json_strings.proofs.Storing as laws
 use Rattle.json_strings.proofs.put_character.Goals as goal
 
--- src/lib.rt:112:9
 pub put_plain-requires : goal.put_plain-requires
-put_plain-requires c = ((laws.there c.args.text.now c.args.at c.args.used c.requires.3 c.requires.4).fits, c.requires.1, c.requires.2)
+put_plain-requires c = ((laws.there c.args.text.now c.args.at c.args.used c.requires.2).fits, c.requires.1)
 
--- src/lib.rt:113:9
 pub returns-then-text-at-ne92 : goal.returns-then-text-at-ne92
-returns-then-text-at-ne92 c = laws.meant_plain c.args.text.now c.args.at c.args.used c.requires.3 c.requires.4 c.if-text-at-ne92.true c.args.out.now c.args.place _ c.put_plain.ensures
+returns-then-text-at-ne92 c = laws.meant_plain c.args.text.now c.args.at c.args.used c.requires.2 c.if-text-at-ne92.true c.args.out.now c.args.place _ c.put_plain.ensures
 
--- src/lib.rt:115:13
 pub bounds-text-at-2 : goal.bounds-text-at-2
-bounds-text-at-2 c = omega (arith, laws.long_escape c.args.text.now c.args.at c.args.used c.requires.3 c.requires.4 c.if-text-at-ne92.false)
+bounds-text-at-2 c = omega (arith, laws.long_escape c.args.text.now c.args.at c.args.used c.requires.2 c.if-text-at-ne92.false)
 
--- src/lib.rt:118:9
-pub returns-then-e-ne117 : goal.returns-then-e-ne117
-returns-then-e-ne117 c = laws.meant_short_escape c.args.text.now c.args.at c.args.used c.requires.3 c.requires.4 c.if-text-at-ne92.false c.if-e-ne117.true c.args.out.now c.args.place _ _ c.short_escape.ensures c.push.ensures
+pub returns-in-Some : goal.returns-in-Some
+returns-in-Some c = laws.meant_short_escape c.args.text.now c.args.at c.args.used c.requires.2 c.if-text-at-ne92.false _ (option_some c.in-Some.ensures) c.args.out.now c.args.place _ c.push.ensures
 
--- src/lib.rt:120:9
-pub unit_at-u-requires : goal.unit_at-u-requires
-unit_at-u-requires c = (omega (arith, laws.long_escape c.args.text.now c.args.at c.args.used c.requires.3 c.requires.4 c.if-text-at-ne92.false), c.requires.1)
+pub unit_at-requires : goal.unit_at-requires
+unit_at-requires c = laws.long_escape c.args.text.now c.args.at c.args.used c.requires.2 c.if-text-at-ne92.false
 
--- src/lib.rt:122:9
+pub unwrap-u-requires : goal.unwrap-u-requires
+unwrap-u-requires c = rw (c.unit_at.ensures.0, (laws.one_there c.args.text.now c.args.at c.args.used c.requires.2 c.if-text-at-ne92.false (option_none c.in_default.ensures)).1)
+
 pub put_utf8-requires : goal.put_utf8-requires
-put_utf8-requires c = (let o = laws.one_unit c.args.text.now c.args.at c.args.used c.requires.3 c.requires.4 c.if-text-at-ne92.false c.if-e-ne117.false _ c.unit_at-u.ensures c.if-used-eq6.true in let s = o.small in omega arith, c.requires.2)
+put_utf8-requires c = let small = rw c.unwrap-u.ensures at c.unit_at.ensures.1 in (omega arith, omega (arith, c.requires.1))
 
--- src/lib.rt:122:9
 pub returns-then-used-eq6 : goal.returns-then-used-eq6
-returns-then-used-eq6 c = laws.as_meant c.args.out.now _ _ _ c.args.place _ (laws.one_unit c.args.text.now c.args.at c.args.used c.requires.3 c.requires.4 c.if-text-at-ne92.false c.if-e-ne117.false _ c.unit_at-u.ensures c.if-used-eq6.true).meant' c.put_utf8.ensures
+returns-then-used-eq6 c = laws.as_meant c.args.out.now _ _ _ c.args.place _ (laws.one_unit c.args.text.now c.args.at c.args.used c.requires.2 c.if-text-at-ne92.false (option_none c.in_default.ensures) _ (option_some (sym c.unwrap-u.ensures ∙ c.unit_at.ensures.0)) c.if-used-eq6.true) c.put_utf8.ensures
 
--- src/lib.rt:124:9
-pub unit_at-v-requires : goal.unit_at-v-requires
-unit_at-v-requires c = (omega (arith, laws.long_pair c.args.text.now c.args.at c.args.used c.requires.3 c.requires.4 c.if-text-at-ne92.false c.if-e-ne117.false _ c.unit_at-u.ensures c.if-used-eq6.false), c.requires.1)
+pub unit_at-requires-2 : goal.unit_at-requires-2
+unit_at-requires-2 c = omega (arith, laws.long_pair c.args.text.now c.args.at c.args.used c.requires.2 c.if-text-at-ne92.false (option_none c.in_default.ensures) _ (option_some (sym c.unwrap-u.ensures ∙ c.unit_at.ensures.0)) c.if-used-eq6.false)
 
--- src/lib.rt:125:46
+pub unwrap-v-requires : goal.unwrap-v-requires
+unwrap-v-requires c = rw (c.unit_at-2.ensures.0, (laws.two_there c.args.text.now c.args.at c.args.used c.requires.2 c.if-text-at-ne92.false (option_none c.in_default.ensures) _ (option_some (sym c.unwrap-u.ensures ∙ c.unit_at.ensures.0)) c.if-used-eq6.false).1)
+
 pub overflow_sub-u : goal.overflow_sub-u
-overflow_sub-u c = let w = laws.two_units c.args.text.now c.args.at c.args.used c.requires.3 c.requires.4 c.if-text-at-ne92.false c.if-e-ne117.false _ c.unit_at-u.ensures c.if-used-eq6.false _ c.unit_at-v.ensures in let h = w.high in let h' = w.high' in let l = w.low in let l' = w.low' in omega arith
+overflow_sub-u c = (laws.two_units c.args.text.now c.args.at c.args.used c.requires.2 c.if-text-at-ne92.false (option_none c.in_default.ensures) _ (option_some (sym c.unwrap-u.ensures ∙ c.unit_at.ensures.0)) c.if-used-eq6.false _ (option_some (sym c.unwrap-v.ensures ∙ c.unit_at-2.ensures.0))).high
 
--- src/lib.rt:125:37
-pub overflow_mul-u : goal.overflow_mul-u
-overflow_mul-u c = let w = laws.two_units c.args.text.now c.args.at c.args.used c.requires.3 c.requires.4 c.if-text-at-ne92.false c.if-e-ne117.false _ c.unit_at-u.ensures c.if-used-eq6.false _ c.unit_at-v.ensures in let h = w.high in let h' = w.high' in let l = w.low in let l' = w.low' in omega arith
-
--- src/lib.rt:125:61
 pub overflow_sub-v : goal.overflow_sub-v
-overflow_sub-v c = let w = laws.two_units c.args.text.now c.args.at c.args.used c.requires.3 c.requires.4 c.if-text-at-ne92.false c.if-e-ne117.false _ c.unit_at-u.ensures c.if-used-eq6.false _ c.unit_at-v.ensures in let h = w.high in let h' = w.high' in let l = w.low in let l' = w.low' in omega arith
+overflow_sub-v c = (laws.two_units c.args.text.now c.args.at c.args.used c.requires.2 c.if-text-at-ne92.false (option_none c.in_default.ensures) _ (option_some (sym c.unwrap-u.ensures ∙ c.unit_at.ensures.0)) c.if-used-eq6.false _ (option_some (sym c.unwrap-v.ensures ∙ c.unit_at-2.ensures.0))).low
 
--- src/lib.rt:125:37
-pub overflow_add-u : goal.overflow_add-u
-overflow_add-u c = let w = laws.two_units c.args.text.now c.args.at c.args.used c.requires.3 c.requires.4 c.if-text-at-ne92.false c.if-e-ne117.false _ c.unit_at-u.ensures c.if-used-eq6.false _ c.unit_at-v.ensures in let h = w.high in let h' = w.high' in let l = w.low in let l' = w.low' in omega arith
-
--- src/lib.rt:125:26
-pub overflow_add-u-2 : goal.overflow_add-u-2
-overflow_add-u-2 c = let w = laws.two_units c.args.text.now c.args.at c.args.used c.requires.3 c.requires.4 c.if-text-at-ne92.false c.if-e-ne117.false _ c.unit_at-u.ensures c.if-used-eq6.false _ c.unit_at-v.ensures in let h = w.high in let h' = w.high' in let l = w.low in let l' = w.low' in omega arith
-
--- src/lib.rt:125:5
 pub put_utf8-requires-2 : goal.put_utf8-requires-2
-put_utf8-requires-2 c = (let w = laws.two_units c.args.text.now c.args.at c.args.used c.requires.3 c.requires.4 c.if-text-at-ne92.false c.if-e-ne117.false _ c.unit_at-u.ensures c.if-used-eq6.false _ c.unit_at-v.ensures in let h = w.high in let h' = w.high' in let l = w.low in let l' = w.low' in omega arith, c.requires.2)
+put_utf8-requires-2 c = let w = laws.two_units c.args.text.now c.args.at c.args.used c.requires.2 c.if-text-at-ne92.false (option_none c.in_default.ensures) _ (option_some (sym c.unwrap-u.ensures ∙ c.unit_at.ensures.0)) c.if-used-eq6.false _ (option_some (sym c.unwrap-v.ensures ∙ c.unit_at-2.ensures.0)) in let h = w.high' in let l = w.low' in let n = w.long in (omega arith, omega (arith, c.requires.1))
 
--- src/lib.rt:107:1
 pub returns : goal.returns
-returns c = laws.as_meant c.args.out.now _ _ _ c.args.place _ (laws.two_units c.args.text.now c.args.at c.args.used c.requires.3 c.requires.4 c.if-text-at-ne92.false c.if-e-ne117.false _ c.unit_at-u.ensures c.if-used-eq6.false _ c.unit_at-v.ensures).meant' c.put_utf8-2.ensures
+returns c = laws.as_meant c.args.out.now _ _ _ c.args.place _ (laws.two_units c.args.text.now c.args.at c.args.used c.requires.2 c.if-text-at-ne92.false (option_none c.in_default.ensures) _ (option_some (sym c.unwrap-u.ensures ∙ c.unit_at.ensures.0)) c.if-used-eq6.false _ (option_some (sym c.unwrap-v.ensures ∙ c.unit_at-2.ensures.0))).meant' c.put_utf8-2.ensures

@@ -4,8 +4,8 @@ use lib.ListN.{length}
 use Rattle.named_sets.proofs.Naming as naming
 use Rattle.named_sets.proofs.find_set.Given as goal
 
-abbrev pub invariant-loop-found : goal.invariant-loop-found
-invariant-loop-found l = naming.Walking l.sets l.name l.at
+abbrev pub invariant-loop-at : goal.invariant-loop-at
+invariant-loop-at l = naming.Walking l.sets l.name l.at
 
-abbrev pub decreases-loop-found : goal.decreases-loop-found
-decreases-loop-found l = length l.sets - l.at
+abbrev pub decreases-loop-at : goal.decreases-loop-at
+decreases-loop-at l = length l.sets - l.at

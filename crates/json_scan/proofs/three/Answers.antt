@@ -1,6 +1,0 @@
-use Rattle.definitions.specs.Json.{is_unescaped}
-use Rattle.json_scan.proofs.three.Goals as goal
-
-pub returns : goal.returns
-unfolding is_unescaped
-returns c = cc
