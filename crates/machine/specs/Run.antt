@@ -17,3 +17,9 @@ step_of Stuck s = machine.stop stuck
 -- the code's step, which leaves that state, is that step
 abbrev pub Stepped : machine.Step → Step → State → Type 0
 Stepped x r s = step_of r s ≡ x
+
+-- a step that does not go on leaves the state as it was
+abbrev pub Stays : Step → State → State → Type 0
+Stays (Next d) before after = Unit {0}
+Stays (Returns a) before after = after ≡ before
+Stays Stuck before after = after ≡ before

@@ -11,7 +11,7 @@ ghost use Rattle.definitions.specs.Outcome.{ended, outcome_of, ran_code, RanAll}
 ghost use Rattle.definitions.specs.Outcome as outcome;
 ghost use Rattle.bpf.specs.Place.{place};
 ghost use Rattle.machine.specs.Codes.{alu_numbered, test_numbered};
-ghost use Rattle.machine.specs.Run.{state_of, Stepped};
+ghost use Rattle.machine.specs.Run.{state_of, Stepped, Stays};
 ghost use Rattle.machine.specs.Outcomes.{outcome_bytes, Put};
 
 use definitions::{Instruction, Outcome};
@@ -76,21 +76,21 @@ impl State {
     // ---- how a step ends: with a value in a register or a scratch word, or some instructions on
 
     fn set_a(&mut self, a: u32) -> Step
-        ensures { Stepped (machine.next 0 (machine.set_a a (state_of self.old))) result self.new }
+        ensures { Stepped (machine.next 0 (machine.set_a a (state_of self.old))) result self.new × Stays result self.old self.new }
     {
         self.a = a;
         Step::Next(0)
     }
 
     fn set_x(&mut self, x: u32) -> Step
-        ensures { Stepped (machine.next 0 (machine.set_x x (state_of self.old))) result self.new }
+        ensures { Stepped (machine.next 0 (machine.set_x x (state_of self.old))) result self.new × Stays result self.old self.new }
     {
         self.x = x;
         Step::Next(0)
     }
 
     fn set_word(&mut self, k: u32, w: u32) -> Step
-        ensures { Stepped (machine.next 0 (machine.set_m k w (state_of self.old))) result self.new }
+        ensures { Stepped (machine.next 0 (machine.set_m k w (state_of self.old))) result self.new × Stays result self.old self.new }
     {
         if k < 16 {
             self.m[k as usize] = w;
@@ -109,7 +109,7 @@ impl State {
 
     #[tactic(auto, unfolding(definitions::specs::Machine::into_a))]
     fn load(&mut self, k: u32, call: &[u8; 64]) -> Step
-        ensures { Stepped (machine.into_a machine.stuck (machine.fetch (call_of call.now) k) (state_of self.old)) result self.new }
+        ensures { Stepped (machine.into_a machine.stuck (machine.fetch (call_of call.now) k) (state_of self.old)) result self.new × Stays result self.old self.new }
     {
         if checks::in_call(k) {
             self.set_a(bpf::u32_at(call, k as usize))
@@ -121,7 +121,7 @@ impl State {
     // A division by 0 ends the run with action 0.
     #[tactic(auto, unfolding(definitions::specs::Machine::into_a))]
     fn arithmetic(&mut self, op: u16, b: u32) -> Step
-        ensures { Stepped (machine.into_a (machine.returns 0) (machine.compute (alu_numbered op) self.old.a b) (state_of self.old)) result self.new }
+        ensures { Stepped (machine.into_a (machine.returns 0) (machine.compute (alu_numbered op) self.old.a b) (state_of self.old)) result self.new × Stays result self.old self.new }
     {
         match computed(op, self.a, b) {
             Some(a) => self.set_a(a),
@@ -130,7 +130,7 @@ impl State {
     }
 
     fn compare(&mut self, i: Instruction, b: u32) -> Step
-        ensures { Stepped (machine.next (cond (machine.test_holds (test_numbered (i.code / 16)) self.old.a b) i.jt i.jf) (state_of self.old)) result self.new }
+        ensures { Stepped (machine.next (cond (machine.test_holds (test_numbered (i.code / 16)) self.old.a b) i.jt i.jf) (state_of self.old)) result self.new × Stays result self.old self.new }
     {
         let distance = if holds(i.code / 16, self.a, b) {
             i.jt
@@ -143,7 +143,7 @@ impl State {
     // One step.
     #[tactic(auto, unfolding(definitions::specs::Machine::codes, definitions::specs::Machine::kind_in, definitions::specs::Machine::kind_of, definitions::specs::Machine::step_as, definitions::specs::Machine::step, crate::specs::Codes::alu_numbered, crate::specs::Codes::test_numbered))]
     pub fn execute(&mut self, i: Instruction, call: &[u8; 64]) -> Step
-        ensures { Stepped (machine.step i (state_of self.old) (call_of call.now)) result self.new }
+        ensures { Stepped (machine.step i (state_of self.old) (call_of call.now)) result self.new × Stays result self.old self.new }
     {
         match i.code {
             // what goes into the accumulator: a word of the call, its length, a constant, a scratch word
