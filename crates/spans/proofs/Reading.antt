@@ -1,5 +1,5 @@
 -- Laws of the spans that are read from a rule set's bytes: a number more gathered into a run, and a run passed.
-use mathlib.Core.Path.{◌≡◌, refl}
+use mathlib.Core.Path.{◌≡◌, refl, ap}
 use mathlib.Core.Bool.{Bool, true, false, cond, not, ◌&&◌}
 use mathlib.Core.List.{List, [], ◌∷◌}
 use Prim.Native.Nat.{ℕ, zero, suc, ◌+◌, ◌-◌, ◌≤◌}
@@ -7,7 +7,8 @@ use native.Mathlib.Omega.{arith}
 use borrow.Author.Tests.{eq-eqb, ne_eqb, eqb-true, eqb-false}
 use lib.Dec.{eqb}
 use lib.ListN.{length, take, drop}
-use Rattle.std.proofs.Common.{Option, Some, None}
+use Rattle.std.proofs.Common.{Some}
+use Rattle.definitions.specs.declared.Instruction.{Instruction}
 use Rattle.definitions.specs.Word.{number_at}
 use Rattle.definitions.specs.RuleSet.{Entry}
 use Rattle.theorems.proofs.Tests.{both_true}
@@ -19,7 +20,7 @@ use Rattle.set_view.specs.Parts.{entries_here, entries_past, entry_here, entry_p
 use Rattle.set_view.proofs.Walk.{behind_more, entries_further, plain_is, plain_past}
 use Rattle.spans.specs.declared.Standing.{Standing}
 use Rattle.spans.specs.declared.Run.{Run}
-use Rattle.spans.specs.Spans.{spans_here, spans_from, Stands, Within, Passes, Gathers, IsNext}
+use Rattle.spans.specs.Spans.{spans_here, spans_from, Stands, Passes, Gathers, IsNext}
 
 -- ---- runs
 
@@ -162,6 +163,22 @@ follows_is s n at last e =
     }
 
 -- ---- the run at a cursor
+
+-- an entry without rules is eight bytes, and has no code
+pub passes_plain : (s : List ℕ) (c : Standing) → Stands s c → (c.left ≡ 0 → ⊥) → number_at 4 s (c.at + 4) ≡ 0
+    → Passes s c (record { at = c.at + 8; left = c.left - 1; place = c.place })
+passes_plain s c stood some z =
+    let m = number_at 4 s 8 in
+    let d = number_at 4 s 4 in
+    let p = plain_past s c.at z in
+    let b = bodies_long s c.left c.at m d some in
+    let k = ap (λ (l : List Instruction). length l) (entry_body_none s (number_at 4 s (c.at + 4)) (c.at + 8) m d z) in
+    record {
+      entries = rw (← p) (entries_here_lem s c.left c.at some);
+      stands = record { inside = rw (← p, ← behind_more (entry_past s) c.left c.at some) stood.inside; size = stood.size; place = rw (← p) (omega (arith, k, b, stood.place)) };
+      fewer = omega (arith, some);
+      behind = omega arith;
+    }
 
 pub run_plain : (s : List ℕ) (c p : Standing) (r : Run) (number : ℕ) → number ≡ number_at 4 s c.at → number_at 4 s (c.at + 4) ≡ 0
     → Passes s c p → Gathers s p number r → IsNext s c r

@@ -78,15 +78,20 @@ pub fn next_run(s: &[u8], c: Standing) -> Run
 {
     let number = bpf::u32_at(s, c.at);
     let rules = bpf::u32_at(s, c.at + 4);
-    let next = pass(s, c);
     if rules == 0 {
+        // an entry without rules is eight bytes, and has no code here
+        let next = Standing {
+            at: c.at + 8,
+            left: c.left - 1,
+            ..c
+        };
         gather(s, next, number)
     } else {
         Run {
             first: number,
             last: number,
             place: Some(c.place),
-            next,
+            next: pass(s, c),
         }
     }
 }
