@@ -1,7 +1,7 @@
 -- Laws of bytes put into a buffer.
 use mathlib.Core.Path.{◌≡◌, ap, ◌∙◌, sym}
-use mathlib.Core.List.{List, ◌++◌, append_assoc}
-use Prim.Native.Nat.{ℕ, ◌+◌, ◌^◌, ◌≤◌, ◌<◌}
+use mathlib.Core.List.{List, [], ◌∷◌, ◌++◌, append_assoc}
+use Prim.Native.Nat.{ℕ, ◌+◌, ◌*◌, ◌/◌, ◌%◌, ◌^◌, ◌≤◌, ◌<◌}
 use native.Mathlib.Omega.{arith}
 use lib.ListN.{length, take, drop, length-append, length-take}
 use lib.Seq.{take_at, drop_at, drop-append-add, drop-drop}
@@ -29,6 +29,19 @@ put_long l at names v m e h =
       place_next l at (at + 8) names (bytes_of 8 v) (rw e) (simp length_bytes (omega arith)),
       place_next l at (at + 16) (names ++ bytes_of 8 v) (bytes_of 8 m) (simp (length-append, length_bytes, e)) (simp length_bytes (omega arith)),
     ) (simp append_assoc)
+
+-- three bytes and five zeros are two numbers of four bytes
+pub three_bytes : (a b c : ℕ) → a < 256 → b < 256 → c < 256 → bytes_of 4 (a + 256 * b + 65536 * c) ++ bytes_of 4 0 ≡ a ∷ b ∷ c ∷ 0 ∷ 0 ∷ 0 ∷ 0 ∷ 0 ∷ []
+unfolding bytes_of
+three_bytes a b c ha hb hc =
+    let n : ℕ = a + 256 * b + 65536 * c in
+    let e0 : n % 256 ≡ a = omega arith in
+    let d0 : n / 256 ≡ b + 256 * c = omega arith in
+    let e1 : (b + 256 * c) % 256 ≡ b = omega arith in
+    let d1 : (b + 256 * c) / 256 ≡ c = omega arith in
+    let e2 : c % 256 ≡ c = omega arith in
+    let d2 : c / 256 ≡ 0 = omega arith in
+    rw (e0, d0, e1, d1, e2, d2)
 
 -- a part of the buffer that was written over
 pub written_over : (l bs : List ℕ) (at k : ℕ) → k ≡ length bs → put_mid at k l bs ≡ place l at bs

@@ -156,7 +156,11 @@ fn write_names(out: &mut [u8], at: usize, index: u8, width: u8, operator: u8)
     requires { at + 8 ≤ length out.old }
     ensures { out.new ≡ place out.old at (names_bytes index width operator) }
 {
-    out[at..at + 8].copy_from_slice(&[index, width, operator, 0, 0, 0, 0, 0]);
+    // as numbers: a row of bytes would be put together in memory first
+    let names = u64::from(index) + 256 * u64::from(width) + 65536 * u64::from(operator);
+    let padding = 0;
+    write_u32(out, at, names);
+    write_u32(out, at + 4, padding);
 }
 
 #[tactic(auto, using(crate::proofs::Stores::put_long), unfolding(crate::specs::Bytes::condition_bytes))]
