@@ -2,14 +2,14 @@
 use mathlib.Core.Path.{◌≡◌, refl, ap, sym, ◌∙◌}
 use mathlib.Core.Bool.{Bool, true, false, cond, ◌&&◌, ◌||◌}
 use mathlib.Core.List.{List, [], ◌∷◌, ◌++◌}
-use Prim.Native.Nat.{ℕ, zero, suc, ◌+◌, ◌<◌, ◌≤◌}
+use Prim.Native.Nat.{ℕ, zero, suc, ◌+◌, ◌<◌}
 use native.Mathlib.Omega.{arith}
 use lib.Dec.{eqb, leb, ltb}
 use lib.ListN.{length, replicate}
 use borrow.Author.Tests.{leb-true, eqb-true, eqb-false, ltb-true, ltb-false, lt-ltb, le-ltb, eq-eqb, ne_eqb}
 use Rattle.std.specs.declared.cmp.Ordering.{Ordering}
 use Rattle.std.specs.declared.cmp.Ordering.TheVariants.{Less, Equal, Greater}
-use Rattle.std.specs.Ordering.{ordering_then, ordering_index, is_lt}
+use Rattle.std.specs.Ordering.{ordering_then, is_lt}
 use Rattle.definitions.specs.Json.{all}
 use Rattle.definitions.specs.JsonForm.{same}
 use Rattle.definitions.specs.CallNames.{before}
@@ -71,10 +71,20 @@ pub data Ranked (x y : List ℕ) : Ordering → Type 0 where
   equals : x ≡ y → Ranked x y Equal
   greater : Before y x → Ranked x y Greater
 
+pub ranked_less : {x y : List ℕ} {r : Ordering} → Ranked x y r → r ≡ Less → Before x y
+ranked_less (less h) e = h
+ranked_less (equals h) e = absurd (cc)
+ranked_less (greater h) e = absurd (cc)
+
 pub ranked_same : {x y : List ℕ} {r : Ordering} → Ranked x y r → r ≡ Equal → x ≡ y
 ranked_same (less h) e = absurd (cc)
 ranked_same (equals h) e = h
 ranked_same (greater h) e = absurd (cc)
+
+pub ranked_greater : {x y : List ℕ} {r : Ordering} → Ranked x y r → r ≡ Greater → Before y x
+ranked_greater (less h) e = absurd (cc)
+ranked_greater (equals h) e = absurd (cc)
+ranked_greater (greater h) e = h
 
 under : {a : ℕ} {x y : List ℕ} {r : Ordering} → Ranked x y r → Ranked (a ∷ x) (a ∷ y) r
 under {a} {x} {y} (less h) = less (equal a x y h)
@@ -129,26 +139,5 @@ before_ranked (less h) = sym (is_before h)
 before_ranked {x} {y} (equals h) = sym (rw h (before_self y))
 before_ranked (greater h) = sym (before_not h)
 
-never : {x y : List ℕ} → Before x y → x ≡ y → ⊥
+pub never : {x y : List ℕ} → Before x y → x ≡ y → ⊥
 never {x} {y} b e = false_not_true (sym (before_self x) ∙ ap (λ (z : List ℕ). before x z) e ∙ is_before b)
-
-pub ranked_equal : {x y : List ℕ} {o : Ordering} → Ranked x y o → x ≡ y → o ≡ Equal
-ranked_equal (less h) e = absurd (never h e)
-ranked_equal (equals h) e = refl
-ranked_equal (greater h) e = absurd (never h (sym e))
-
-pub less_not : Less ≡ Equal → ⊥
-less_not e = cc
-
-pub greater_not : Greater ≡ Equal → ⊥
-greater_not e = cc
-
--- the answers of the order to one name, along names that ascend
-pub rises : {x y k : List ℕ} {o p : Ordering} → Before x y → Ranked x k o → Ranked y k p → ordering_index o ≤ ordering_index p
-rises b (less h) r = omega arith
-rises b (equals h) (less g) = absurd (never (before_trans b g) h)
-rises b (equals h) (equals g) = omega arith
-rises b (equals h) (greater g) = omega arith
-rises b (greater h) (less g) = absurd (never (before_trans h (before_trans b g)) refl)
-rises b (greater h) (equals g) = absurd (never (before_trans h b) (sym g))
-rises b (greater h) (greater g) = omega arith

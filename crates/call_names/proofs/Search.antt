@@ -11,15 +11,14 @@ use lib.Seq.{drop-drop, take-append-add, take_at}
 use borrow.Author.Tests.{eqb-true, eqb-false, ltb-true, ltb-false, le-leb}
 use Rattle.std.specs.Prelude.{Option as Answer, Some, None, unwrap_or, position}
 use Rattle.std.specs.Simd.{first_chunks}
-use Rattle.std.specs.List.{position_or_len, list_all, list_any, HoldsAt}
-use Rattle.std.specs.List.Sorted.{IsNonDecreasingBy, IsPartitionPoint}
+use Rattle.std.specs.List.{position_or_len, list_all, list_any}
 use Rattle.std.proofs.lemmas.List.{take-take, drop-take}
 use Rattle.std.proofs.lemmas.Bool.{cases_eq}
 use Rattle.std.proofs.Common.{⊎_elim}
 use Rattle.std.proofs.lemmas.List.Recursion.{is_position_or_len}
 use Rattle.std.specs.declared.cmp.Ordering.{Ordering}
 use Rattle.std.specs.declared.cmp.Ordering.TheVariants.{Less, Equal, Greater}
-use Rattle.std.specs.Ordering.{is_lt, is_ge, is_some_and, nat_cmp, ordering_index}
+use Rattle.std.specs.Ordering.{is_lt, is_ge, is_some_and, nat_cmp}
 use Rattle.std.specs.Cmp.Lexicographic.{slice_partial_cmp, lists_agrees}
 use Rattle.definitions.specs.Word.{number_at}
 use Rattle.definitions.specs.Json.{all}
@@ -28,7 +27,7 @@ use Rattle.definitions.specs.CallNames.{before, number_for, is_zero, until_zero,
 use Rattle.json_theorems.proofs.Tests.{both_true, false_not_true}
 use Rattle.call_names.specs.Slots.{Good, compared, Kept, Answers}
 use Rattle.json_theorems.proofs.Values.{same_true, same_self}
-use Rattle.call_names.proofs.Ranks.{Before, before_is, before_trans, not_same, is_byte, Ranked, rises, ranked_same, ranked_equal, less_not, greater_not, rank, before_ranked}
+use Rattle.call_names.proofs.Ranks.{Before, before_is, before_trans, not_same, is_byte, Ranked, ranked_less, ranked_same, ranked_greater, rank, before_ranked, never}
 
 -- ---- bytes up to a zero
 
@@ -272,35 +271,72 @@ module _ (table key : List ℕ) (count : ℕ) (g : Good table) (few : count ≤ 
       further i j a = let e : 32 * i + (32 + 32 * (j - suc i)) ≡ 32 * j = omega arith in rw (drop-drop (32 * (j - suc i)) 32 (drop (32 * i) table), drop-drop (32 + 32 * (j - suc i)) (32 * i) table, e)
 
   module _ (slots : List (List ℕ)) (are : slots ≡ first_chunks 32 (slot_count table) table) where
-    slot_order : (i : ℕ) (d : List ℕ) → i < slot_count table → compared 28 (get_or slots i d) key ≡ compared 28 (drop (32 * i) table) key
-    slot_order i d h = rw (are, slot_at (slot_count table) i table d h, take-take 28 32 (drop (32 * i) table) (omega arith))
+    slot_order : (i : ℕ) → i < slot_count table → compared 28 (get_or slots i []) key ≡ compared 28 (drop (32 * i) table) key
+    slot_order i h = rw (are, slot_at (slot_count table) i table [] h, take-take 28 32 (drop (32 * i) table) (omega arith))
 
-    pub search_found : (i : ℕ) → i < slot_count table → HoldsAt (λ y. compared 28 y key ≡ Equal) slots i
+    pub found_there : (i : ℕ) → i < slot_count table → compared 28 (get_or slots i []) key ≡ Equal
         → number_for (slots_in (slot_count table) table) k ≡ some (number_at 4 (get_or slots i []) 28)
-    search_found i h e =
-        found_here k (slot_count table) i (slot_count table - suc i) [] table (omega arith) (whole table g).are (ranked_same (ranked i h) (sym (slot_order i [] h) ∙ e []))
+    found_there i h e =
+        found_here k (slot_count table) i (slot_count table - suc i) [] table (omega arith) (whole table g).are (ranked_same (ranked i h) (sym (slot_order i h) ∙ e))
         ∙ ap some (sym (number_in_slot (drop (32 * i) table)) ∙ ap (λ (l : List ℕ). number_at 4 l 28) (sym (slot_is table slots i are h)))
 
-    in_order : length slots ≡ slot_count table → IsNonDecreasingBy (λ y. ordering_index (compared 28 y key)) slots
-    in_order long i j d a b =
-        let hi : i < slot_count table = omega arith in
-        let hj : j < slot_count table = omega arith in
-        ⊎_elim
-        (λ e. rw e (omega arith))
-        (λ ne. rw (slot_order i d hi, slot_order j d hj) (rises (ascends i j (omega (arith, ne)) hj) (ranked i hi) (ranked j hj)))
-        (cases_eq i j)
+    all_less : (i : ℕ) → i < slot_count table → compared 28 (get_or slots i []) key ≡ Less → (j : ℕ) → j < i + 1 → Before (name_in (drop (32 * j) table)) k
+    all_less i h e j a =
+        let here = ranked_less (ranked i h) (sym (slot_order i h) ∙ e) in
+        ⊎_elim (λ same. rw same here) (λ ne. before_trans (ascends j i (omega (arith, ne)) h) here) (cases_eq j i)
 
-    pub search_none : length slots ≡ slot_count table → (i : ℕ) → (IsNonDecreasingBy (λ y. ordering_index (compared 28 y key)) slots → IsPartitionPoint (λ y. compared 28 y key ≡ Less) (λ y. compared 28 y key ≡ Greater) slots i)
-        → number_for (slots_in (slot_count table) table) k ≡ none
-    search_none long i part =
-        let p = part (in_order long) in
-        not_here k (slot_count table) table (λ j h e.
-        let same = slot_order j [] h ∙ ranked_equal (ranked j h) e in
-        go j (ltb j i) refl (λ a. sym (p.0 j [] (omega arith) a) ∙ same) (λ a. sym (p.1 j [] a (omega arith)) ∙ same))
-      where
-        go : (j : ℕ) (t : Bool) → ltb j i ≡ t → (j < i → Less ≡ Equal) → (i ≤ j → Greater ≡ Equal) → ⊥
-        go j true e low high = less_not (low (ltb-true j i e))
-        go j false e low high = greater_not (high (ltb-false j i e))
+    all_greater : (i : ℕ) → i < slot_count table → compared 28 (get_or slots i []) key ≡ Greater → (j : ℕ) → i ≤ j → j < slot_count table → Before k (name_in (drop (32 * j) table))
+    all_greater i h e j a b =
+        let here = ranked_greater (ranked i h) (sym (slot_order i h) ∙ e) in
+        ⊎_elim (λ same. rw same here) (λ ne. before_trans here (ascends i j (omega (arith, ne)) b)) (cases_eq j i)
+
+-- the slots below low have a lower name than what is kept so, and those from high on a greater one
+pub record Searching (table key : List ℕ) (count low high : ℕ) : Type 0 where
+  pub ordered : low ≤ high
+  pub inside : high ≤ slot_count table
+  pub below : (k : List ℕ) → Kept k key count → (i : ℕ) → i < low → Before (name_in (drop (32 * i) table)) k
+  pub above : (k : List ℕ) → Kept k key count → (i : ℕ) → high ≤ i → i < slot_count table → Before k (name_in (drop (32 * i) table))
+
+pub search_start : (table key : List ℕ) (count high : ℕ) → high ≡ slot_count table → Searching table key count 0 high
+search_start table key count high e = record {
+  ordered = omega arith;
+  inside = omega arith;
+  below = λ k kept i h. absurd (omega arith);
+  above = λ k kept i a h. absurd (omega arith);
+}
+
+module _ (table key : List ℕ) (count low middle high : ℕ) (g : Good table) (s : Searching table key count low high) (lo : low ≤ middle) (hi : middle < high) (few : count ≤ 28)
+    (bytes : (k : List ℕ) → Kept k key count → all is_byte k ≡ true) (slots : List (List ℕ)) (are : slots ≡ first_chunks 32 (slot_count table) table) where
+  there : middle < slot_count table
+  there = let h = s.inside in omega arith
+
+  pub search_found : compared 28 (get_or slots middle []) key ≡ Equal → (k : List ℕ) → Kept k key count
+      → number_for (slots_in (slot_count table) table) k ≡ some (number_at 4 (get_or slots middle []) 28)
+  search_found e k kept = found_there table key count g few k kept (bytes k kept) slots are middle there e
+
+  pub search_low : compared 28 (get_or slots middle []) key ≡ Less → (next : ℕ) → next ≤ middle + 1 → Searching table key count next high
+  search_low e next n = record {
+    ordered = omega arith;
+    inside = s.inside;
+    below = λ k kept i h. all_less table key count g few k kept (bytes k kept) slots are middle there e i (omega arith);
+    above = s.above;
+  }
+
+  pub search_high : compared 28 (get_or slots middle []) key ≡ Greater → Searching table key count low middle
+  search_high e = record {
+    ordered = lo;
+    inside = (let h = there in omega arith);
+    below = s.below;
+    above = λ k kept. all_greater table key count g few k kept (bytes k kept) slots are middle there e;
+  }
+
+pub search_end : (table key : List ℕ) (count low high : ℕ) → Searching table key count low high → high ≤ low → (k : List ℕ) → Kept k key count
+    → number_for (slots_in (slot_count table) table) k ≡ none
+search_end table key count low high s h k kept = not_here k (slot_count table) table (λ i inside e. go i inside e (ltb i low) refl)
+  where
+    go : (i : ℕ) → i < slot_count table → name_in (drop (32 * i) table) ≡ k → (t : Bool) → ltb i low ≡ t → ⊥
+    go i inside e true f = never (s.below k kept i (ltb-true i low f)) e
+    go i inside e false f = never (s.above k kept i (let w = ltb-false i low f in omega arith) inside) (sym e)
 
 -- ---- the check
 
@@ -424,12 +460,27 @@ answers_some table key count n r e f k kept = rw (f k kept) e
 pub kept_long : (table key : List ℕ) (count : ℕ) → 28 < count → (k : List ℕ) → Kept k key count → number_for (slots_in (slot_count table) table) k ≡ none
 kept_long table key count h k kept = let c = kept.counted in too_long k (omega arith) (slot_count table) table
 
-module _ (key : List ℕ) (count : ℕ) (few : count ≤ 28) (k : List ℕ) (kept : Kept k key count) where
-  pub kept_zero : list_any is_zero (take count key) ≡ true → (table : List ℕ) → number_for (slots_in (slot_count table) table) k ≡ none
-  kept_zero h table = has_zero k (rw (kept_front k key count kept few) at h) (slot_count table) table
+-- a zero among the first bytes is one among more of them
+any_more : (n m : ℕ) (l : List ℕ) → n ≤ m → list_any is_zero (take n l) ≡ true → list_any is_zero (take m l) ≡ true
+any_more zero m l h e = absurd (false_not_true e)
+any_more (suc n) zero l h e = absurd (omega arith)
+any_more (suc n) (suc m) [] h e = absurd (false_not_true e)
+any_more (suc n) (suc m) (b ∷ l) h e = go (is_zero b) e (any_more n m l (omega arith))
+  where
+    go : (t : Bool) → (t || list_any is_zero (take n l)) ≡ true → (list_any is_zero (take n l) ≡ true → list_any is_zero (take m l) ≡ true) → (t || list_any is_zero (take m l)) ≡ true
+    go true f ih = refl
+    go false f ih = ih f
 
-  pub kept_clean : list_any is_zero (take count key) ≡ false → all is_byte k ≡ true
-  kept_clean h = zero_free k ∙ ap not (rw (kept_front k key count kept few) at h)
+module _ (key : List ℕ) (count n : ℕ) (few : count ≤ 28) (k : List ℕ) (kept : Kept k key count) where
+  pub kept_zero : list_any is_zero (take n key) ≡ true → n ≤ count → (table : List ℕ) → number_for (slots_in (slot_count table) table) k ≡ none
+  kept_zero e h table = has_zero k (rw (kept_front k key count kept few) at (any_more n count key h e)) (slot_count table) table
+
+  pub kept_clean : list_any is_zero (take n key) ≡ false → count ≤ n → all is_byte k ≡ true
+  kept_clean e h = zero_free k ∙ ap not (go (list_any is_zero k) refl)
+    where
+      go : (t : Bool) → list_any is_zero k ≡ t → list_any is_zero k ≡ false
+      go false f = f
+      go true f = absurd (false_not_true (sym e ∙ any_more count n key h (rw (kept_front k key count kept few) f)))
 
 pub named_law : (l : List ℕ) → is_named l ≡ true → (leb 1 (length (name_in l)) && all is_zero (drop (length (name_in l)) (take 28 l))) ≡ true
 unfolding is_named

@@ -5,6 +5,8 @@ ghost use Rattle.std.specs.Prelude.{◌≡◌, ◌≤◌, length};
 ghost use Rattle.definitions.specs.CallNames.{is_named, first_bad};
 ghost use Rattle.call_names.specs.Slots.{Good, Answers};
 
+use std::cmp::Ordering;
+
 // Whether a slot has a name: at least one byte, and zeros behind it.
 fn is_named(slot: &[u8; 32]) -> bool
     ensures { result ≡ is_named slot.now }
@@ -23,10 +25,18 @@ pub fn number_of(table: &[u8], key: &[u8], count: usize) -> Option<u32>
     }
     let (slots, _) = table.as_chunks::<32>();
     let name = &key[..28];
-    match slots.binary_search_by(|slot| slot[..28].cmp(name)) {
-        Ok(at) => Some(bpf::u32_at(&slots[at], 28)),
-        Err(_) => None,
+    // std's `binary_search_by` goes on to the end; this leaves where a slot is equal
+    let mut low = 0;
+    let mut high = slots.len();
+    while low < high {
+        let middle = low + (high - low) / 2;
+        match slots[middle][..28].cmp(name) {
+            Ordering::Equal => return Some(bpf::u32_at(&slots[middle], 28)),
+            Ordering::Less => low = middle + 1,
+            Ordering::Greater => high = middle,
+        }
     }
+    None
 }
 
 // Where the first slot begins that is none; the table's length where all are, and no part of one is left over.
