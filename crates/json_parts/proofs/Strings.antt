@@ -6,7 +6,7 @@ use lib.ListN.{length, drop, replicate}
 use lib.Seq.{sets}
 use Rattle.definitions.specs.Word.{number_at}
 use Rattle.definitions.specs.JsonReader.{Got, got, stop, string_at, placed, bad_character}
-use Rattle.std.specs.Prelude.{Ok, Err}
+use Rattle.std.specs.Prelude.{Result, Ok, Err, MatchResult}
 use Rattle.json_scan.specs.Scan.{At, Stands, Tells}
 use Rattle.json_strings.specs.declared.Decoded.{Decoded}
 use Rattle.json_strings.specs.Decoding.{Stored}
@@ -15,13 +15,19 @@ use Rattle.json_parts.specs.declared.Word.{Word}
 use Rattle.json_parts.specs.Words.{filled, Packs, Keeps}
 use Rattle.json_parts.proofs.Places.{string_read, string_refused}
 
-pub stands_inside : (text : List ℕ) (g : Got (List ℕ)) (at : ℕ) → Stands text g (Err at) → at ≤ length text
-stands_inside text (got a rest) at t = absurd t
-stands_inside text (stop k rest) at t = t.inside
+-- the place that is told is in the text, whatever is told
+pub stands_inside : (text : List ℕ) (g : Got (List ℕ)) (r : Result ℕ ℕ) → Stands text g r → MatchResult r (λ at. at ≤ length text) (λ at. at ≤ length text)
+stands_inside text (got a rest) (Ok at) t = t.inside
+stands_inside text (got a rest) (Err at) t = absurd t
+stands_inside text (stop k rest) (Ok at) t = absurd t
+stands_inside text (stop k rest) (Err at) t = t.inside
 
-pub stored_inside : (text zeros out : List ℕ) (g : Got (List ℕ)) (at : ℕ) → Stored text zeros 0 g out (Err at) → at ≤ length text
-stored_inside text zeros out (got a rest) at t = absurd t
-stored_inside text zeros out (stop k rest) at t = t.inside
+pub stored_inside : (text zeros out : List ℕ) (g : Got (List ℕ)) (r : Result Decoded ℕ) → Stored text zeros 0 g out r
+    → MatchResult r (λ d. d.at ≤ length text) (λ at. at ≤ length text)
+stored_inside text zeros out (got a rest) (Ok d) t = t.place.inside
+stored_inside text zeros out (got a rest) (Err at) t = absurd t
+stored_inside text zeros out (stop k rest) (Ok d) t = absurd t
+stored_inside text zeros out (stop k rest) (Err at) t = t.inside
 
 module _ (text : List ℕ) (from : ℕ) (inside : from ≤ length text) where
   pub skipped : (at : ℕ) → Stands text (string_at (drop from text)) (Ok at) → Tells text from (λ s. Unit {0}) (placed bad_character (string_at (drop from text))) 0 at

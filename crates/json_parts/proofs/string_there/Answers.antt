@@ -1,5 +1,6 @@
 use mathlib.Core.Path.{refl, sym, ◌∙◌}
 use native.Mathlib.Omega.{arith}
+use Rattle.std.specs.Prelude.{Err}
 use Rattle.json_parts.proofs.Places as laws
 use Rattle.json_numbers.proofs.Counting.{inside}
 use Prim.Native.Nat.{◌+◌}
@@ -16,7 +17,7 @@ pub skip_string-requires : goal.skip_string-requires
 skip_string-requires c = (omega (arith, inside c.args.text.now c.args.at 0x22 (sym c.byte.ensures ∙ c.if-byte-ne34.false) (omega arith)))
 
 pub bad_character-requires : goal.bad_character-requires
-bad_character-requires c = strings.stands_inside c.args.text.now (string_at (drop (c.args.at + 1) c.args.text.now)) _ c.in-Err.ensures
+bad_character-requires c = strings.stands_inside c.args.text.now (string_at (drop (c.args.at + 1) c.args.text.now)) (Err _) c.in-Err.ensures
 
 pub returns-in-Ok : goal.returns-in-Ok
 returns-in-Ok c = laws.string_there_lem c.args.text.now c.args.at (sym c.byte.ensures ∙ c.if-byte-ne34.false) (strings.skipped c.args.text.now (c.args.at + 1) (omega (arith, inside c.args.text.now c.args.at 0x22 (sym c.byte.ensures ∙ c.if-byte-ne34.false) (omega arith))) _ c.in-Ok.ensures)
